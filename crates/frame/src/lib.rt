@@ -1,0 +1,4 @@
+// Frames of the chip SL3ICS31: check value, opening and making.
+pub mod check;
+pub mod refusal;
+pub mod writer;
