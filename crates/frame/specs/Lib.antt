@@ -1,2 +1,4 @@
 pub mod Check
+pub mod Commands
 pub mod Refusals
+pub mod Writing

@@ -3,6 +3,7 @@ ghost use mathlib.Core.Path.{_≡_};
 ghost use mathlib.Core.Bool.{cond};
 ghost use mathlib.Core.List.{[], _++_};
 ghost use Prim.Native.Nat.{_-_};
+ghost use Rattle.std.specs.Iters.{folded};
 ghost use Rattle.frame.specs.Check.{bitTaken, byteTaken, register, checkValue, sent};
 
 // The polynomial, without its highest term.
@@ -61,17 +62,6 @@ impl Register {
         Register { value: 0xffff }
     }
 
-    // The register over a whole message.
-    pub fn over(message: &[u8]) -> Register
-        ensures { λ r. ⌜ r .value ≡ register (now (message .entry)) ⌝ }
-    {
-        let mut register = Register::preset();
-        for byte in message {
-            register.take_byte(*byte);
-        }
-        register
-    }
-
     // One more bit, for who takes a message off the air.
     pub fn take_bit(&mut self, bit: bool)
         ensures { λ _. ⌜ now (self .exit) .value ≡ bitTaken (now (self .entry) .value) (cond bit 1 0) ⌝ }
@@ -86,6 +76,22 @@ impl Register {
     {
         let [high, low] = self.value.to_be_bytes();
         self.value = (u16::from(low) * 256) ^ from_empty(high ^ byte);
+    }
+
+    // Some more bytes.
+    pub fn take(&mut self, bytes: &[u8])
+        ensures { λ _. ⌜ now (self .exit) .value ≡ folded byteTaken (now (self .entry) .value) (now (bytes .entry)) ⌝ }
+    {
+        for byte in bytes {
+            self.take_byte(*byte);
+        }
+    }
+
+    // The check value of what went through: the register inverted.
+    pub fn check_value(&self) -> u16
+        ensures { λ r. ⌜ r ≡ 0xffff - now (self .entry) .value ⌝ }
+    {
+        0xffff - self.value
     }
 
     // What the register holds.
@@ -109,5 +115,7 @@ pub fn check_value(message: &[u8]) -> u16
     ensures value { λ r. ⌜ r ≡ checkValue (now (message .entry)) ⌝ }
     ensures residue { λ r. ⌜ register (now (message .entry) ++ sent r) ≡ 0x1d0f ⌝ }
 {
-    0xffff - Register::over(message).value()
+    let mut register = Register::preset();
+    register.take(message);
+    register.check_value()
 }

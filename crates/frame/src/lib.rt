@@ -1,4 +1,5 @@
 // Frames of the chip SL3ICS31: check value, opening and making.
 pub mod check;
+pub mod command;
 pub mod refusal;
 pub mod writer;

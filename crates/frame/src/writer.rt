@@ -1,53 +1,73 @@
 // Bytes put one behind another at the front of a lent buffer.
 ghost use mathlib.Core.Path.{_≡_};
-ghost use mathlib.Core.List.{_++_, _∷_, []};
-ghost use Prim.Native.Nat.{_+_, _<_, _≤_};
-ghost use lib.ListN.{length, take, drop};
+ghost use mathlib.Core.Bool.{cond};
+ghost use mathlib.Core.List.{[]};
+ghost use Prim.Native.Nat.{_+_, _-_, _<_, _≤_};
+ghost use lib.ListN.{length};
 ghost use denote.Ref.{name};
-ghost use Rattle.frame.specs.Check.{sealed};
-use crate::check::check_value;
+ghost use Rattle.std.specs.Iters.{folded};
+ghost use Rattle.std.specs.Results.{Cases, isOk};
+ghost use Rattle.frame.specs.Check.{register as registerOver, byteTaken, sent};
+ghost use Rattle.frame.specs.Writing.{laid};
+use crate::check::Register;
 use crate::refusal::Refusal;
 
+// The buffer, how many of its bytes are filled, and the register over those that were put.
 #[derive(Drop)]
 pub struct Writer<'a> {
     buffer: &'a mut [u8],
     filled: usize,
+    register: Register,
 }
 
 impl<'a> Writer<'a> {
     pub fn new(buffer: &'a mut [u8]) -> Writer<'a>
+        ensures filled { λ r. ⌜ r .filled ≡ 0 ⌝ }
+        ensures register { λ r. ⌜ r .register .value ≡ registerOver [] ⌝ }
+        ensures buffer { λ r. ⌜ now (r .buffer) ≡ now (buffer .entry) ⌝ }
+        ensures lender { λ r. ⌜ name (r .buffer) ≡ name (buffer .entry) ⌝ }
     {
-        Writer { buffer, filled: 0 }
+        Writer { buffer, filled: 0, register: Register::preset() }
     }
 
-    pub fn put(&mut self, byte: u8) -> Result<(), Refusal>
+    // Puts some bytes behind those that are there, or none of them where they do not all fit.
+    pub fn put(&mut self, bytes: &[u8]) -> Result<(), Refusal>
+        ensures answer { λ r. ⌜ Cases r (λ _. now (self .entry) .filled + length (now (bytes .entry)) ≤ length (now (now (self .entry) .buffer))) (λ e. (e ≡ Refusal.Buffer) × (length (now (now (self .entry) .buffer)) < now (self .entry) .filled + length (now (bytes .entry)))) ⌝ }
+        ensures filled { λ r. ⌜ now (self .exit) .filled ≡ cond (isOk r) (now (self .entry) .filled + length (now (bytes .entry))) (now (self .entry) .filled) ⌝ }
+        ensures register { λ r. ⌜ now (self .exit) .register .value ≡ cond (isOk r) (folded byteTaken (now (self .entry) .register .value) (now (bytes .entry))) (now (self .entry) .register .value) ⌝ }
+        ensures buffer { λ r. ⌜ now (now (self .exit) .buffer) ≡ cond (isOk r) (laid (now (now (self .entry) .buffer)) (now (self .entry) .filled) (now (bytes .entry))) (now (now (self .entry) .buffer)) ⌝ }
+        ensures lender { λ _. ⌜ name (now (self .exit) .buffer) ≡ name (now (self .entry) .buffer) ⌝ }
     {
-        if self.filled >= self.buffer.len() {
+        let start = self.filled;
+        let room = self.buffer.len();
+        if room < start || room - start < bytes.len() {
             return Err(Refusal::Buffer);
         }
-        self.buffer[self.filled] = byte;
-        self.filled += 1;
+        let end = start + bytes.len();
+        self.buffer[start..end].copy_from_slice(bytes);
+        self.filled = end;
+        self.register.take(bytes);
         Ok(())
     }
 
-    pub fn put_all(&mut self, bytes: &[u8]) -> Result<(), Refusal>
+    // Puts the check value of all that was put behind it.
+    pub fn seal(&mut self) -> Result<(), Refusal>
     {
-        for byte in bytes {
-            self.put(*byte)?;
-        }
-        Ok(())
+        let value = self.register.check_value();
+        self.put(&value.to_be_bytes())
     }
 
-    pub fn filled(&self) -> usize {
+    pub fn filled(&self) -> usize
+        ensures { λ r. ⌜ r ≡ now (self .entry) .filled ⌝ }
+    {
         self.filled
     }
 }
 
-pub fn twice(b: u8, buffer: &mut [u8]) -> Result<usize, Refusal>
-    ensures { λ _. ⌜ length (now (buffer .exit)) ≡ length (now (buffer .entry)) ⌝ }
+pub fn twice(b: &[u8], buffer: &mut [u8]) -> Result<usize, Refusal>
+    ensures { λ r. ⌜ Cases r (λ n. (n ≡ length (now (b .entry))) × (now (buffer .exit) ≡ laid (now (buffer .entry)) 0 (now (b .entry)))) (λ _. now (buffer .exit) ≡ now (buffer .entry)) ⌝ }
 {
     let mut w = Writer::new(buffer);
-    w.put(b)?;
     w.put(b)?;
     Ok(w.filled())
 }

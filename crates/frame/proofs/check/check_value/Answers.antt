@@ -1,12 +1,14 @@
 use mathlib.Core.Path.{_≡_, ap, _∙_}
 use mathlib.Core.List.{_++_}
 use Prim.Native.Nat.{ℕ, _-_}
-use Rattle.frame.specs.Check.{register, checkValue, sent, sealed}
+use Rattle.std.specs.Iters.{folded}
+use Rattle.frame.specs.Check.{register, byteTaken, checkValue, sent, sealed}
 use Rattle.frame.proofs.Moves.{residue}
 use Rattle.frame.proofs.check.check_value.Needs as need
 
 pub returns : need.returns
-unfolding checkValue sealed
+unfolding checkValue sealed register
 returns c =
-    let v : 0xffff - c .value .result ≡ checkValue (c .args .message .now) = ap (λ (r : ℕ). 0xffff - r) (c .value .ensures ∙ c .over .ensures) in
+    let v : c .check-value .result ≡ checkValue (c .args .message .now) =
+      c .check-value .ensures ∙ ap (λ (r : ℕ). 0xffff - r) (c .take .ensures ∙ ap (λ (r : ℕ). folded byteTaken r (c .args .message .now)) (c .preset-register .ensures)) in
     record { value = v; residue = ap (λ (r : ℕ). register (c .args .message .now ++ sent r)) v ∙ residue (c .args .message .now) }
