@@ -1,0 +1,65 @@
+-- What opening comes to, case by case. Assumes nothing.
+use mathlib.Core.Path.{_≡_, refl, sym, ap, _∙_}
+use mathlib.Core.List.{List, [], _∷_}
+use mathlib.Core.Bool.{Bool, true, false, cond}
+use Prim.Native.Nat.{ℕ, _+_, _≤_, _<_}
+use native.Mathlib.Omega.{arith}
+use lib.Dec.{eqb, ltb}
+use lib.ListN.{length, getD}
+use Rattle.std.specs.Options.{mapped}
+use Rattle.std.specs.declared.option.Option.{Option}
+use Rattle.std.specs.declared.option.Option.the-variants.{Some, None}
+use Rattle.std.proofs.shelf.Tests.{lt-ltb, le-ltb, eq-eqb, ne-eqb, cond-true, cond-false}
+use Rattle.frame.specs.declared.command.Command.{Command}
+use Rattle.frame.specs.declared.command.Entry.{Entry}
+use Rattle.frame.specs.declared.refusal.Refusal.{Refusal}
+use Rattle.frame.specs.declared.refusal.Refusal.the-variants.{Stub, Check, Code, Length, Buffer}
+use Rattle.frame.specs.Commands.{codeOf, layout, lengthOf, named, entryOf}
+use Rattle.frame.specs.Openings.{Opening, refused, opened, opening, byName, isSealed, parametersOf, refusedAs}
+use Rattle.frame.specs.Parts.{placed}
+use Rattle.frame.specs.Refusals.{numberOf}
+
+module _ (frame : List ℕ) where
+  pub stub : length frame < 3 → opening frame ≡ refused 1
+  unfolding opening
+  stub h = cond-true _ _ _ (lt-ltb (length frame) 3 h)
+
+  long : 3 ≤ length frame → opening frame ≡ cond (isSealed frame) (byName (named (getD frame 0 0)) frame) (refused 2)
+  unfolding opening
+  long h = cond-false _ _ _ (le-ltb (length frame) 3 h)
+
+  pub bad-check : 3 ≤ length frame → isSealed frame ≡ false → opening frame ≡ refused 2
+  bad-check h s = long h ∙ cond-false _ _ _ s
+
+  module _ (h : 3 ≤ length frame) (s : isSealed frame ≡ true) where
+    by-name : (o : Option Command) → named (getD frame 0 0) ≡ o → opening frame ≡ byName o frame
+    by-name o e = long h ∙ cond-true _ _ _ s ∙ ap (λ (p : Option Command). byName p frame) e
+
+    pub no-code : named (getD frame 0 0) ≡ None → opening frame ≡ refused 3
+    no-code e = by-name None e
+
+    pub bad-length : (c : Command) → named (getD frame 0 0) ≡ Some c → (length frame ≡ lengthOf c → ⊥) → opening frame ≡ refused 4
+    bad-length c e l = by-name (Some c) e ∙ cond-false _ _ _ (ne-eqb (length frame) (lengthOf c) l)
+
+    pub opens : (c : Command) → named (getD frame 0 0) ≡ Some c → length frame ≡ lengthOf c
+        → opening frame ≡ opened (codeOf c) c (placed 1 (layout c) (parametersOf frame))
+    opens c e l = by-name (Some c) e ∙ cond-true _ _ _ (eq-eqb (length frame) (lengthOf c) l)
+
+  pub refused-as : (e : Refusal) → refusedAs e frame → refused (numberOf e) ≡ opening frame
+  refused-as Stub h = sym (stub h)
+  refused-as Check h = sym (bad-check (h .0) (h .1))
+  refused-as Code h = absurd h
+  refused-as Length h = absurd h
+  refused-as Buffer h = absurd h
+
+-- What a look-up in the table tells of the command.
+pub found-none : (o : Option Command) → None ≡ mapped entryOf o → o ≡ None
+found-none None e = refl
+found-none (Some c) e = cc
+
+pub found-some : (o : Option Command) (e : Entry) → Some e ≡ mapped entryOf o → (o ≡ Some (e .command)) × (e ≡ entryOf (e .command))
+found-some None e p = absurd (let z : _≡_ {A = ℕ} 0 1 = cc in omega arith)
+found-some (Some c) e p =
+    let q : e ≡ entryOf c = cc in
+    let r : e .command ≡ c = ap (λ (x : Entry). x .command) q in
+    (ap Some (sym r), q ∙ ap entryOf (sym r))

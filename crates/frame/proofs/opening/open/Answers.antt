@@ -1,0 +1,50 @@
+use mathlib.Core.Path.{_≡_, sym, ap, _∙_}
+use Prim.Native.Nat.{ℕ}
+use native.Mathlib.Omega.{arith}
+use lib.ListN.{length}
+use Rattle.std.proofs.shelf.Results.{err-from-errBy}
+use Rattle.frame.specs.declared.command.Command.{Command}
+use Rattle.frame.specs.declared.command.Entry.{Entry}
+use Rattle.frame.specs.Commands.{codeOf, named, layout, lengthOf}
+use Rattle.frame.specs.Openings.{opened, parametersOf}
+use Rattle.frame.specs.Parts.{placed}
+use Rattle.frame.specs.Requests.{commandOf, partsOf}
+use Rattle.frame.proofs.Seals.{length-parameters}
+use Rattle.frame.proofs.Opens.{refused-as, no-code, bad-length, opens, found-none, found-some}
+use Rattle.frame.proofs.opening.open.Needs as need
+
+pub returns-in-Break-code : need.returns-in-Break-code
+returns-in-Break-code c =
+    let p = err-from-errBy (c .from-residual .result) (c .from-residual .ensures .1) in
+    rw (p .1, p .2) (refused-as (c .args .bytes .now) (c .in-Break-code .field-0 .0) (c .in-Break-code .ensures tt))
+
+pub returns-in-rest : need.returns-in-rest
+returns-in-rest c =
+    let u = c .in-Continue-code .ensures tt in
+    sym (no-code (c .args .bytes .now) (u .0) (u .1) (ap named (sym (u .2)) ∙ found-none (named (c .in-Continue-code .code)) (c .in-rest .ensures tt)))
+
+pub returns-then-bytes-entry : need.returns-then-bytes-entry
+returns-then-bytes-entry c =
+    let u = c .in-Continue-code .ensures tt in
+    let f = found-some (named (c .in-Continue-code .code)) (c .in-Some .entry) (c .in-Some .ensures tt) in
+    sym (bad-length (c .args .bytes .now) (u .0) (u .1) (c .in-Some .entry .command) (ap named (sym (u .2)) ∙ f .0)
+      (λ l. c .if-bytes-entry .taken (l ∙ sym (ap (λ (e : Entry). e .length) (f .1)))))
+
+pub of-requires : need.of-requires
+of-requires c κs =
+    let u = c .in-Continue-code .ensures tt in
+    let f = found-some (named (c .in-Continue-code .code)) (c .in-Some .entry) (c .in-Some .ensures tt) in
+    let l : length (c .args .bytes .now) ≡ lengthOf (c .in-Some .entry .command) = c .if-bytes-entry .left ∙ ap (λ (e : Entry). e .length) (f .1) in
+    let p : length (c .in-Continue-code .parameters .now) ≡ length (parametersOf (c .args .bytes .now)) = ap length (u .3) in
+    omega (arith, length-parameters (c .args .bytes .now) (u .0))
+
+pub returns : need.returns
+returns c =
+    let u = c .in-Continue-code .ensures tt in
+    let f = found-some (named (c .in-Continue-code .code)) (c .in-Some .entry) (c .in-Some .ensures tt) in
+    let k : Command = c .in-Some .entry .command in
+    let l : length (c .args .bytes .now) ≡ lengthOf k = c .if-bytes-entry .left ∙ ap (λ (e : Entry). e .length) (f .1) in
+    ap (λ (n : ℕ). opened n (commandOf (c .of .result)) (partsOf (c .of .result))) (ap (λ (e : Entry). e .code) (f .1))
+    ∙ ap (λ (d : Command). opened (codeOf k) d (partsOf (c .of .result))) (c .of .ensures .command)
+    ∙ ap (opened (codeOf k) k) (c .of .ensures .parts ∙ ap (placed 1 (layout k)) (u .3))
+    ∙ sym (opens (c .args .bytes .now) (u .0) (u .1) k (ap named (sym (u .2)) ∙ f .0) l)

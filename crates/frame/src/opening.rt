@@ -1,0 +1,53 @@
+// Opening a frame: what it asks, and where each parameter lies in the caller's bytes.
+ghost use mathlib.Core.Path.{_≡_};
+ghost use mathlib.Core.Bool.{true};
+ghost use Prim.Native.Nat.{_≤_};
+ghost use lib.ListN.{length, getD};
+ghost use Rattle.std.specs.Results.{Cases};
+ghost use Rattle.frame.specs.Openings.{opening, seen, isSealed, parametersOf, refusedAs};
+use crate::check::Register;
+use crate::command::find;
+use crate::refusal::Refusal;
+use crate::request::Request;
+
+// A frame that opened: the caller's bytes, their code and their request.
+#[derive(Clone, Copy)]
+pub struct Frame<'a> {
+    bytes: &'a [u8],
+    code: u8,
+    request: Request<'a>,
+}
+
+// Opens a frame, or tells why not.
+pub fn open(bytes: &[u8]) -> Result<Frame<'_>, Refusal>
+    ensures { λ r. ⌜ seen r ≡ opening (now (bytes .entry)) ⌝ }
+{
+    let (code, parameters) = unsealed(bytes)?;
+    let Some(entry) = find(code) else {
+        return Err(Refusal::Code);
+    };
+    if bytes.len() != entry.length {
+        return Err(Refusal::Length);
+    }
+    Ok(Frame { bytes, code: entry.code, request: Request::of(entry.command, parameters) })
+}
+
+// The code and the parameters of a frame whose check value is right.
+fn unsealed(bytes: &[u8]) -> Result<(u8, &[u8]), Refusal>
+    ensures { λ r. ⌜ Cases r (λ p. (3 ≤ length (now (bytes .entry))) × (isSealed (now (bytes .entry)) ≡ true) × (p .0 ≡ getD (now (bytes .entry)) 0 0) × (now (p .1) ≡ parametersOf (now (bytes .entry)))) (λ e. refusedAs e (now (bytes .entry))) ⌝ }
+{
+    let [code, rest @ ..] = bytes else {
+        return Err(Refusal::Stub);
+    };
+    let [parameters @ .., high, low] = rest else {
+        return Err(Refusal::Stub);
+    };
+    let mut register = Register::preset();
+    register.take_byte(*code);
+    register.take(parameters);
+    if register.check_value() != u16::from_be_bytes([*high, *low]) {
+        return Err(Refusal::Check);
+    }
+    Ok((*code, parameters))
+}
+
