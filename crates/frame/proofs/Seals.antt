@@ -11,7 +11,7 @@ use Rattle.std.proofs.shelf.Lists.{append-cancel-left, take-append-drop, drop-m
 use Rattle.std.proofs.shelf.Tests.{cases-bool}
 use Rattle.std.proofs.shelf.Equals.{sameBytes-decides}
 use Rattle.std.specs.Iters.{folded}
-use Rattle.frame.specs.Check.{register, byteTaken, checkValue, sent, sealed}
+use Rattle.crc.specs.Check.{register, byteTaken, checkValue, sent, sealed}
 use Rattle.frame.specs.Openings.{front, isSealed, parametersOf}
 
 -- two bytes are a number's, or the number is not theirs

@@ -1,5 +1,6 @@
-pub mod Check
+pub mod Cases
 pub mod Commands
+pub mod Makings
 pub mod Openings
 pub mod Parts
 pub mod Refusals

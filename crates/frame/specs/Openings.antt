@@ -14,7 +14,7 @@ use Rattle.frame.specs.declared.command.Command.{Command}
 use Rattle.frame.specs.declared.opening.Frame.{Frame}
 use Rattle.frame.specs.declared.refusal.Refusal.{Refusal}
 use Rattle.frame.specs.declared.refusal.Refusal.the-variants.{Stub, Check, Code, Length, Buffer}
-use Rattle.frame.specs.Check.{sealed}
+use Rattle.crc.specs.Check.{sealed}
 use Rattle.frame.specs.Commands.{codeOf, layout, lengthOf, named}
 use Rattle.frame.specs.Parts.{Part, placed}
 use Rattle.frame.specs.Refusals.{numberOf}

@@ -1,8 +1,17 @@
 -- Parameters in a frame. Assumes nothing.
 use mathlib.Core.List.{List, [], _∷_}
+use mathlib.Core.Bool.{cond}
+use mathlib.Core.Path.{_≡_}
 use Prim.Native.Nat.{ℕ, _+_}
-use lib.ListN.{take, drop}
+use lib.Dec.{eqb}
+use lib.ListN.{length, take, drop}
+use Rattle.std.specs.Joined.{joined}
+use Rattle.std.specs.shelf.Lists.{All}
+use Rattle.std.specs.declared.option.Option.{Option}
+use Rattle.std.specs.declared.option.Option.the-variants.{Some, None}
 use Rattle.frame.specs.declared.command.Parameter.{Parameter}
+use Rattle.frame.specs.declared.command.Parameter.the-variants.{Serial, Address, Mask, Word, Data, Length, Ignored}
+use Rattle.frame.specs.declared.request.Span.{Span}
 use Rattle.frame.specs.Commands.{sizeOf}
 
 -- A parameter in a frame: which one, how far from the frame's first byte, and its bytes.
@@ -16,3 +25,27 @@ abbrev pub placed : ℕ → List Parameter → List ℕ → List Part
 placed offset [] bytes = []
 placed offset (p ∷ ps) bytes =
     record { parameter = p; offset = offset; bytes = take (sizeOf p) bytes } ∷ placed (offset + sizeOf p) ps (drop (sizeOf p) bytes)
+
+-- The bytes of some parameters, one behind another.
+abbrev pub bytesIn : List Part → List ℕ
+bytesIn parts = joined (λ p. p .bytes) parts
+
+-- Each part's bytes are those of the frame at its offset.
+abbrev pub Within : List ℕ → List Part → Type 0
+Within frame parts = All (λ p. take (length (p .bytes)) (drop (p .offset) frame) ≡ p .bytes) parts
+
+-- The parameters by number, in the order in which frames have them.
+abbrev pub placeOf : Parameter → ℕ
+placeOf Serial = 0
+placeOf Address = 1
+placeOf Mask = 2
+placeOf Word = 3
+placeOf Data = 4
+placeOf Length = 5
+placeOf Ignored = 6
+
+-- Where a parameter lies, if it is there.
+abbrev pub spanOf : Parameter → List Part → Option Span
+spanOf p [] = None
+spanOf p (x ∷ xs) =
+    cond (eqb (placeOf (x .parameter)) (placeOf p)) (Some (record { offset = x .offset; length = length (x .bytes) })) (spanOf p xs)

@@ -1,6 +1,6 @@
-// Frames of the chip SL3ICS31: check value, opening and making.
-pub mod check;
+// Frames of the chip SL3ICS31: opening and making.
 pub mod command;
+pub mod making;
 pub mod opening;
 pub mod refusal;
 pub mod request;

@@ -4,8 +4,13 @@ ghost use mathlib.Core.Bool.{true};
 ghost use Prim.Native.Nat.{_≤_};
 ghost use lib.ListN.{length, getD};
 ghost use Rattle.std.specs.Results.{Cases};
+ghost use Rattle.std.specs.Vec.{made as whenMade};
+ghost use Rattle.frame.specs.Cases.{Damaged-frames};
+ghost use Rattle.frame.specs.Makings.{making, made};
 ghost use Rattle.frame.specs.Openings.{opening, seen, isSealed, parametersOf, refusedAs};
-use crate::check::Register;
+ghost use Rattle.frame.specs.Parts.{bytesIn, Within};
+ghost use Rattle.frame.specs.Requests.{partsOf};
+use crc::Register;
 use crate::command::find;
 use crate::refusal::Refusal;
 use crate::request::Request;
@@ -18,9 +23,14 @@ pub struct Frame<'a> {
     request: Request<'a>,
 }
 
-// Opens a frame, or tells why not.
+// Opens a frame, or tells why not. Each parameter lies in the bytes at its offset, and the bytes are the one frame that
+// making gives for that code and those parameters.
 pub fn open(bytes: &[u8]) -> Result<Frame<'_>, Refusal>
-    ensures { λ r. ⌜ seen r ≡ opening (now (bytes .entry)) ⌝ }
+    ensures seen { λ r. ⌜ seen r ≡ opening (now (bytes .entry)) ⌝ }
+    ensures bytes { λ r. ⌜ whenMade r (λ f. now (f .bytes) ≡ now (bytes .entry)) ⌝ }
+    ensures within { λ r. ⌜ whenMade r (λ f. Within (now (bytes .entry)) (partsOf (f .request))) ⌝ }
+    ensures remade { λ r. ⌜ whenMade r (λ f. making (f .code) (bytesIn (partsOf (f .request))) (length (now (bytes .entry))) ≡ made (now (bytes .entry))) ⌝ }
+    ensures damaged { λ _. ⌜ Damaged-frames ⌝ }
 {
     let (code, parameters) = unsealed(bytes)?;
     let Some(entry) = find(code) else {
@@ -30,6 +40,29 @@ pub fn open(bytes: &[u8]) -> Result<Frame<'_>, Refusal>
         return Err(Refusal::Length);
     }
     Ok(Frame { bytes, code: entry.code, request: Request::of(entry.command, parameters) })
+}
+
+impl<'a> Frame<'a> {
+    // The bytes that it was opened from.
+    pub fn bytes(&self) -> &'a [u8]
+        ensures { λ r. ⌜ now r ≡ now (now (self .entry) .bytes) ⌝ }
+    {
+        self.bytes
+    }
+
+    // The code, its first byte.
+    pub fn code(&self) -> u8
+        ensures { λ r. ⌜ r ≡ now (self .entry) .code ⌝ }
+    {
+        self.code
+    }
+
+    // The command with its parameters.
+    pub fn request(&self) -> Request<'a>
+        ensures { λ r. ⌜ r ≡ now (self .entry) .request ⌝ }
+    {
+        self.request
+    }
 }
 
 // The code and the parameters of a frame whose check value is right.

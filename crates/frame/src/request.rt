@@ -5,9 +5,10 @@ ghost use Prim.Native.Nat.{_≤_};
 ghost use lib.ListN.{length, drop};
 ghost use Rattle.frame.specs.Commands.{layout, sizes};
 ghost use Rattle.frame.specs.Requests.{partsOf, commandOf, comparisonParts, targetParts, bytesAt};
-ghost use Rattle.frame.specs.Parts.{placed};
+ghost use Rattle.frame.specs.Parts.{placed, spanOf};
 ghost use Rattle.frame.specs.declared.command.Parameter.the-variants.{Serial, Address, Mask, Word, Length, Data, Ignored};
 use crate::command::Command;
+use crate::command::Parameter;
 
 // A parameter of one byte, and its offset in the frame.
 #[derive(Clone, Copy)]
@@ -21,6 +22,13 @@ pub struct ByteAt<'a> {
 pub struct BytesAt<'a> {
     pub offset: usize,
     pub bytes: &'a [u8],
+}
+
+// Where a parameter lies in its frame.
+#[derive(Clone, Copy, PartialEq, Eq, Debug)]
+pub struct Span {
+    pub offset: usize,
+    pub length: usize,
 }
 
 // What a tag's memory is compared with.
@@ -58,6 +66,52 @@ pub enum Request<'a> {
 }
 
 impl<'a> Request<'a> {
+    // The command alone.
+    pub fn command(&self) -> Command
+        ensures { λ r. ⌜ r ≡ commandOf (now (self .entry)) ⌝ }
+    {
+        match self {
+            Request::Select(_) => Command::Select,
+            Request::UnselectNe(_) => Command::UnselectNe,
+            Request::UnselectIdFlag(_) => Command::UnselectIdFlag,
+            Request::UnselectNoidFlag(_) => Command::UnselectNoidFlag,
+            Request::Query => Command::Query,
+            Request::Scroll => Command::Scroll,
+            Request::Repeat => Command::Repeat,
+            Request::Reset => Command::Reset,
+            Request::Read(_) => Command::Read,
+            Request::Verify(_) => Command::Verify,
+            Request::Lock(_) => Command::Lock,
+            Request::Qlock(_) => Command::Qlock,
+            Request::ReadFlexible(_, _) => Command::ReadFlexible,
+            Request::Write(_, _, _) => Command::Write,
+        }
+    }
+
+    // Where a parameter lies in the frame, if the command has it.
+    pub fn span(&self, parameter: Parameter) -> Option<Span>
+        ensures { λ r. ⌜ r ≡ spanOf parameter (partsOf (now (self .entry))) ⌝ }
+    {
+        match self {
+            Request::Select(comparison) | Request::UnselectNe(comparison) => comparison.span(parameter),
+            Request::UnselectIdFlag(bytes) | Request::UnselectNoidFlag(bytes) => match parameter {
+                Parameter::Ignored => Some(bytes.span()),
+                _ => None,
+            },
+            Request::Query | Request::Scroll | Request::Repeat | Request::Reset => None,
+            Request::Read(target) | Request::Verify(target) | Request::Lock(target) | Request::Qlock(target) => target.span(parameter),
+            Request::ReadFlexible(target, length) => match parameter {
+                Parameter::Length => Some(length.span()),
+                _ => target.span(parameter),
+            },
+            Request::Write(target, mask, bytes) => match parameter {
+                Parameter::Mask => Some(mask.span()),
+                Parameter::Data => Some(bytes.span()),
+                _ => target.span(parameter),
+            },
+        }
+    }
+
     // The request of a command from its parameters, which have the right length.
     pub(crate) fn of(command: Command, parameters: &'a [u8]) -> Request<'a>
         requires { ⌜ length (now parameters) ≡ sizes (layout command) ⌝ }
@@ -110,7 +164,23 @@ impl<'a> Request<'a> {
     }
 }
 
+impl<'a> ByteAt<'a> {
+    fn span(&self) -> Span
+        ensures offset { λ r. ⌜ r .offset ≡ now (self .entry) .offset ⌝ }
+        ensures length { λ r. ⌜ r .length ≡ 1 ⌝ }
+    {
+        Span { offset: self.offset, length: 1 }
+    }
+}
+
 impl<'a> BytesAt<'a> {
+    fn span(&self) -> Span
+        ensures offset { λ r. ⌜ r .offset ≡ now (self .entry) .offset ⌝ }
+        ensures length { λ r. ⌜ r .length ≡ length (now (now (self .entry) .bytes)) ⌝ }
+    {
+        Span { offset: self.offset, length: self.bytes.len() }
+    }
+
     // The two bytes that no tag looks at.
     fn ignored(parameters: &'a [u8]) -> BytesAt<'a>
         requires { ⌜ length (now parameters) ≡ 2 ⌝ }
@@ -121,6 +191,17 @@ impl<'a> BytesAt<'a> {
 }
 
 impl<'a> Comparison<'a> {
+    fn span(&self, parameter: Parameter) -> Option<Span>
+        ensures { λ r. ⌜ r ≡ spanOf parameter (comparisonParts (now (self .entry))) ⌝ }
+    {
+        match parameter {
+            Parameter::Address => Some(self.address.span()),
+            Parameter::Mask => Some(self.mask.span()),
+            Parameter::Word => Some(self.word.span()),
+            _ => None,
+        }
+    }
+
     // An address, a mask and eight bytes.
     fn of(parameters: &'a [u8]) -> Comparison<'a>
         requires { ⌜ length (now parameters) ≡ 10 ⌝ }
@@ -138,6 +219,16 @@ impl<'a> Comparison<'a> {
 }
 
 impl<'a> Target<'a> {
+    fn span(&self, parameter: Parameter) -> Option<Span>
+        ensures { λ r. ⌜ r ≡ spanOf parameter (targetParts (now (self .entry))) ⌝ }
+    {
+        match parameter {
+            Parameter::Serial => Some(self.serial.span()),
+            Parameter::Address => Some(self.address.span()),
+            _ => None,
+        }
+    }
+
     // A serial number and an address.
     fn of(parameters: &'a [u8]) -> Target<'a>
         requires { ⌜ length (now parameters) ≡ 9 ⌝ }

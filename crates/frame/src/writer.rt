@@ -2,14 +2,16 @@
 ghost use mathlib.Core.Path.{_≡_};
 ghost use mathlib.Core.Bool.{cond};
 ghost use mathlib.Core.List.{[]};
-ghost use Prim.Native.Nat.{_+_, _-_, _<_, _≤_};
+ghost use Prim.Native.Nat.{_+_, _-_};
 ghost use lib.ListN.{length};
 ghost use denote.Ref.{name};
 ghost use Rattle.std.specs.Iters.{folded};
-ghost use Rattle.std.specs.Results.{Cases, isOk};
-ghost use Rattle.frame.specs.Check.{register as registerOver, byteTaken, sent};
-ghost use Rattle.frame.specs.Writing.{laid};
-use crate::check::Register;
+ghost use Rattle.std.specs.Results.{isOk};
+ghost use Rattle.std.specs.Vec.{refused};
+ghost use Rattle.crc.specs.Check.{register as registerOver, byteTaken, sent};
+ghost use Rattle.frame.specs.Cases.{Short-replies};
+ghost use Rattle.frame.specs.Writing.{hasRoom, laid};
+use crc::Register;
 use crate::refusal::Refusal;
 
 // The buffer, how many of its bytes are filled, and the register over those that were put.
@@ -32,7 +34,8 @@ impl<'a> Writer<'a> {
 
     // Puts some bytes behind those that are there, or none of them where they do not all fit.
     pub fn put(&mut self, bytes: &[u8]) -> Result<(), Refusal>
-        ensures answer { λ r. ⌜ Cases r (λ _. now (self .entry) .filled + length (now (bytes .entry)) ≤ length (now (now (self .entry) .buffer))) (λ e. (e ≡ Refusal.Buffer) × (length (now (now (self .entry) .buffer)) < now (self .entry) .filled + length (now (bytes .entry)))) ⌝ }
+        ensures room { λ r. ⌜ isOk r ≡ hasRoom (now (self .entry)) (length (now (bytes .entry))) ⌝ }
+        ensures refusal { λ r. ⌜ refused r (λ e. e ≡ Refusal.Buffer) ⌝ }
         ensures filled { λ r. ⌜ now (self .exit) .filled ≡ cond (isOk r) (now (self .entry) .filled + length (now (bytes .entry))) (now (self .entry) .filled) ⌝ }
         ensures register { λ r. ⌜ now (self .exit) .register .value ≡ cond (isOk r) (folded byteTaken (now (self .entry) .register .value) (now (bytes .entry))) (now (self .entry) .register .value) ⌝ }
         ensures buffer { λ r. ⌜ now (now (self .exit) .buffer) ≡ cond (isOk r) (laid (now (now (self .entry) .buffer)) (now (self .entry) .filled) (now (bytes .entry))) (now (now (self .entry) .buffer)) ⌝ }
@@ -50,8 +53,15 @@ impl<'a> Writer<'a> {
         Ok(())
     }
 
-    // Puts the check value of all that was put behind it.
+    // Puts the check value of all that was put behind it, or nothing where it does not fit.
     pub fn seal(&mut self) -> Result<(), Refusal>
+        ensures room { λ r. ⌜ isOk r ≡ hasRoom (now (self .entry)) 2 ⌝ }
+        ensures refusal { λ r. ⌜ refused r (λ e. e ≡ Refusal.Buffer) ⌝ }
+        ensures filled { λ r. ⌜ now (self .exit) .filled ≡ cond (isOk r) (now (self .entry) .filled + 2) (now (self .entry) .filled) ⌝ }
+        ensures register { λ r. ⌜ now (self .exit) .register .value ≡ cond (isOk r) (folded byteTaken (now (self .entry) .register .value) (sent (0xffff - now (self .entry) .register .value))) (now (self .entry) .register .value) ⌝ }
+        ensures buffer { λ r. ⌜ now (now (self .exit) .buffer) ≡ cond (isOk r) (laid (now (now (self .entry) .buffer)) (now (self .entry) .filled) (sent (0xffff - now (self .entry) .register .value))) (now (now (self .entry) .buffer)) ⌝ }
+        ensures lender { λ _. ⌜ name (now (self .exit) .buffer) ≡ name (now (self .entry) .buffer) ⌝ }
+        ensures replies { λ _. ⌜ Short-replies ⌝ }
     {
         let value = self.register.check_value();
         self.put(&value.to_be_bytes())
@@ -62,12 +72,4 @@ impl<'a> Writer<'a> {
     {
         self.filled
     }
-}
-
-pub fn twice(b: &[u8], buffer: &mut [u8]) -> Result<usize, Refusal>
-    ensures { λ r. ⌜ Cases r (λ n. (n ≡ length (now (b .entry))) × (now (buffer .exit) ≡ laid (now (buffer .entry)) 0 (now (b .entry)))) (λ _. now (buffer .exit) ≡ now (buffer .entry)) ⌝ }
-{
-    let mut w = Writer::new(buffer);
-    w.put(b)?;
-    Ok(w.filled())
 }

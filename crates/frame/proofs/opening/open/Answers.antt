@@ -1,13 +1,18 @@
-use mathlib.Core.Path.{_≡_, sym, ap, _∙_}
+use mathlib.Core.Path.{_≡_, refl, sym, ap, ap₂, subst, _∙_}
+use mathlib.Core.List.{List}
 use Prim.Native.Nat.{ℕ}
 use native.Mathlib.Omega.{arith}
-use lib.ListN.{length}
+use lib.ListN.{length, getD}
 use Rattle.std.proofs.shelf.Results.{err-from-errBy}
 use Rattle.frame.specs.declared.command.Command.{Command}
 use Rattle.frame.specs.declared.command.Entry.{Entry}
 use Rattle.frame.specs.Commands.{codeOf, named, layout, lengthOf}
 use Rattle.frame.specs.Openings.{opened, parametersOf}
-use Rattle.frame.specs.Parts.{placed}
+use Rattle.frame.specs.Makings.{making}
+use Rattle.frame.specs.Parts.{Part, placed, bytesIn, Within}
+use Rattle.std.specs.declared.option.Option.the-variants.{Some}
+use Rattle.frame.proofs.Limits.{damaged-frames}
+use Rattle.frame.proofs.Trips.{within, remade}
 use Rattle.frame.specs.Requests.{commandOf, partsOf}
 use Rattle.frame.proofs.Seals.{length-parameters}
 use Rattle.frame.proofs.Opens.{refused-as, no-code, bad-length, opens, found-none, found-some}
@@ -16,19 +21,35 @@ use Rattle.frame.proofs.opening.open.Needs as need
 pub returns-in-Break-code : need.returns-in-Break-code
 returns-in-Break-code c =
     let p = err-from-errBy (c .from-residual .result) (c .from-residual .ensures .1) in
-    rw (p .1, p .2) (refused-as (c .args .bytes .now) (c .in-Break-code .field-0 .0) (c .in-Break-code .ensures tt))
+    rw (p .1, p .2)
+    (record
+     { seen = refused-as (c .args .bytes .now) (c .in-Break-code .field-0 .0) (c .in-Break-code .ensures tt)
+     ; bytes = tt
+     ; within = tt
+     ; remade = tt
+     ; damaged = damaged-frames })
 
 pub returns-in-rest : need.returns-in-rest
 returns-in-rest c =
     let u = c .in-Continue-code .ensures tt in
-    sym (no-code (c .args .bytes .now) (u .0) (u .1) (ap named (sym (u .2)) ∙ found-none (named (c .in-Continue-code .code)) (c .in-rest .ensures tt)))
+    record
+    { seen = sym (no-code (c .args .bytes .now) (u .0) (u .1) (ap named (sym (u .2)) ∙ found-none (named (c .in-Continue-code .code)) (c .in-rest .ensures tt)))
+    ; bytes = tt
+    ; within = tt
+    ; remade = tt
+    ; damaged = damaged-frames }
 
 pub returns-then-bytes-entry : need.returns-then-bytes-entry
 returns-then-bytes-entry c =
     let u = c .in-Continue-code .ensures tt in
     let f = found-some (named (c .in-Continue-code .code)) (c .in-Some .entry) (c .in-Some .ensures tt) in
-    sym (bad-length (c .args .bytes .now) (u .0) (u .1) (c .in-Some .entry .command) (ap named (sym (u .2)) ∙ f .0)
-      (λ l. c .if-bytes-entry .taken (l ∙ sym (ap (λ (e : Entry). e .length) (f .1)))))
+    record
+    { seen = sym (bad-length (c .args .bytes .now) (u .0) (u .1) (c .in-Some .entry .command) (ap named (sym (u .2)) ∙ f .0)
+        (λ l. c .if-bytes-entry .taken (l ∙ sym (ap (λ (e : Entry). e .length) (f .1)))))
+    ; bytes = tt
+    ; within = tt
+    ; remade = tt
+    ; damaged = damaged-frames }
 
 pub of-requires : need.of-requires
 of-requires c κs =
@@ -44,7 +65,16 @@ returns c =
     let f = found-some (named (c .in-Continue-code .code)) (c .in-Some .entry) (c .in-Some .ensures tt) in
     let k : Command = c .in-Some .entry .command in
     let l : length (c .args .bytes .now) ≡ lengthOf k = c .if-bytes-entry .left ∙ ap (λ (e : Entry). e .length) (f .1) in
-    ap (λ (n : ℕ). opened n (commandOf (c .of .result)) (partsOf (c .of .result))) (ap (λ (e : Entry). e .code) (f .1))
-    ∙ ap (λ (d : Command). opened (codeOf k) d (partsOf (c .of .result))) (c .of .ensures .command)
-    ∙ ap (opened (codeOf k) k) (c .of .ensures .parts ∙ ap (placed 1 (layout k)) (u .3))
-    ∙ sym (opens (c .args .bytes .now) (u .0) (u .1) k (ap named (sym (u .2)) ∙ f .0) l)
+    let frame : List ℕ = c .args .bytes .now in
+    let name : named (getD frame 0 0) ≡ Some k = ap named (sym (u .2)) ∙ f .0 in
+    let code : c .in-Some .entry .code ≡ codeOf k = ap (λ (e : Entry). e .code) (f .1) in
+    let parts : partsOf (c .of .result) ≡ placed 1 (layout k) (parametersOf frame) = c .of .ensures .parts ∙ ap (placed 1 (layout k)) (u .3) in
+    record
+    { seen =
+        ap (λ (n : ℕ). opened n (commandOf (c .of .result)) (partsOf (c .of .result))) code
+        ∙ ap (λ (d : Command). opened (codeOf k) d (partsOf (c .of .result))) (c .of .ensures .command)
+        ∙ ap (opened (codeOf k) k) parts ∙ sym (opens frame (u .0) (u .1) k name l)
+    ; bytes = refl
+    ; within = subst (Within frame) (sym parts) (within frame (u .0) (u .1) k name l)
+    ; remade = ap₂ (λ (n : ℕ) (ps : List Part). making n (bytesIn ps) (length frame)) code parts ∙ remade frame (u .0) (u .1) k name l
+    ; damaged = damaged-frames }

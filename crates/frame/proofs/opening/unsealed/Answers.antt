@@ -6,7 +6,7 @@ use borrow.Author.Tests.{ltb-false}
 use lib.ListN.{length, getD, take, drop}
 use Rattle.std.proofs.shelf.Parts.{first-rest}
 use Rattle.std.proofs.shelf.Lists.{take-rest, getD-drop}
-use Rattle.frame.specs.Check.{checkValue}
+use Rattle.crc.specs.Check.{checkValue}
 use Rattle.frame.specs.Openings.{isSealed, parametersOf}
 use Rattle.frame.proofs.Seals.{right, wrong, parameters-are, comes-to}
 use Rattle.frame.proofs.opening.unsealed.Needs as need

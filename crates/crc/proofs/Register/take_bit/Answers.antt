@@ -4,10 +4,10 @@ use Prim.Native.Nat.{ℕ, _+_, _-_, _*_, _<_}
 use native.Mathlib.Omega.{arith}
 use mir.Val.{boolByte}
 use lib.Bits.{bitXor, xor-lt}
-use Rattle.frame.specs.Check.{bitTaken, moved}
-use Rattle.frame.proofs.Moves.{moved-low, moved-high}
-use Rattle.frame.proofs.check.Register.take_bit.Needs as need
-use Rattle.frame.proofs.check.Register.take_bit.Needs.{then-met-lt-TOP, else-met-lt-TOP}
+use Rattle.crc.specs.Check.{bitTaken, moved}
+use Rattle.crc.proofs.Moves.{moved-low, moved-high}
+use Rattle.crc.proofs.Register.take_bit.Needs as need
+use Rattle.crc.proofs.Register.take_bit.Needs.{then-met-lt-TOP, else-met-lt-TOP}
 
 number : (b : Bool) → boolByte b ≡ cond b 1 0
 number true = refl

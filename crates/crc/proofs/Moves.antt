@@ -12,7 +12,7 @@ use lib.Pow.{pow-pos}
 use lib.Bits.{bitXor, differ, xor-block, xor-shifted, xor-lt, xor-assoc, xor-comm, xor-zero-r, xor-step, xor-self}
 use lib.Dec.{ltb}
 use Rattle.std.proofs.shelf.Tests.{lt-ltb, le-ltb, cond-true, cond-false, cases-lt}
-use Rattle.frame.specs.Check.{moved, bitTaken, bits, byteTaken, register, checkValue, sent, sealed}
+use Rattle.crc.specs.Check.{moved, bitTaken, bits, byteTaken, register, checkValue, sent, sealed}
 use Rattle.std.specs.Iters.{folded}
 use Rattle.std.proofs.shelf.Sums.{folded-push}
 

@@ -3,9 +3,9 @@ use Prim.Native.Nat.{ℕ, _+_, _*_, _/_, _%_, _<_}
 use native.Mathlib.Omega.{arith}
 use lib.Bits.{bitXor}
 use lib.ListN.{getD}
-use Rattle.frame.specs.Check.{byteTaken}
-use Rattle.frame.proofs.Moves.{byte-taken}
-use Rattle.frame.proofs.check.Register.take_byte.Needs as need
+use Rattle.crc.specs.Check.{byteTaken}
+use Rattle.crc.proofs.Moves.{byte-taken}
+use Rattle.crc.proofs.Register.take_byte.Needs as need
 
 pub returns : need.returns
 returns c =

@@ -2,9 +2,9 @@ use mathlib.Core.Path.{_≡_, ap, _∙_}
 use mathlib.Core.List.{_++_}
 use Prim.Native.Nat.{ℕ, _-_}
 use Rattle.std.specs.Iters.{folded}
-use Rattle.frame.specs.Check.{register, byteTaken, checkValue, sent, sealed}
-use Rattle.frame.proofs.Moves.{residue}
-use Rattle.frame.proofs.check.check_value.Needs as need
+use Rattle.crc.specs.Check.{register, byteTaken, checkValue, sent, sealed}
+use Rattle.crc.proofs.Moves.{residue}
+use Rattle.crc.proofs.check_value.Needs as need
 
 pub returns : need.returns
 unfolding checkValue sealed register

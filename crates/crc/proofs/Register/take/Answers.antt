@@ -4,8 +4,8 @@ use lib.ListN.{getD}
 use Rattle.std.specs.Iters.{folded}
 use Rattle.std.proofs.shelf.Sums.{folded-more}
 use Rattle.std.proofs.shelf.Lists.{take-all}
-use Rattle.frame.specs.Check.{byteTaken}
-use Rattle.frame.proofs.check.Register.take.Needs as need
+use Rattle.crc.specs.Check.{byteTaken}
+use Rattle.crc.proofs.Register.take.Needs as need
 
 pub loop-byte-again : need.loop-byte-again
 loop-byte-again c =

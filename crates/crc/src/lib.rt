@@ -4,7 +4,7 @@ ghost use mathlib.Core.Bool.{cond};
 ghost use mathlib.Core.List.{[], _++_};
 ghost use Prim.Native.Nat.{_-_};
 ghost use Rattle.std.specs.Iters.{folded};
-ghost use Rattle.frame.specs.Check.{bitTaken, byteTaken, register, checkValue, sent};
+ghost use Rattle.crc.specs.Check.{bitTaken, byteTaken, register, checkValue, sent};
 
 // The polynomial, without its highest term.
 const POLYNOMIAL: u16 = 0x1021;

@@ -1,0 +1,43 @@
+-- What a writer's buffer holds after some bytes were put: those bytes, and behind them what was there. Assumes nothing.
+use mathlib.Core.Path.{_≡_, refl, sym, ap, ap₂, _∙_}
+use mathlib.Core.List.{List, [], _∷_, _++_, append-assoc}
+use Prim.Native.Nat.{ℕ, _+_, _≤_}
+use native.Mathlib.Omega.{arith}
+use lib.ListN.{length, take, drop}
+use lib.Seq.{drop-append-add}
+use Rattle.std.specs.Iters.{folded}
+use Rattle.std.proofs.shelf.Lists.{take-at, drop-drop, length-append}
+use Rattle.crc.specs.Check.{register, byteTaken}
+use Rattle.frame.specs.declared.writer.Writer.{Writer}
+use Rattle.frame.specs.Writing.{laid}
+
+folded-append : (r : ℕ) (xs ys : List ℕ) → folded byteTaken r (xs ++ ys) ≡ folded byteTaken (folded byteTaken r xs) ys
+folded-append r [] ys = refl
+folded-append r (x ∷ xs) ys = folded-append (byteTaken r x) xs ys
+
+-- Bytes laid right behind a front.
+laid-behind : (buffer front bytes : List ℕ)
+    → laid (front ++ drop (length front) buffer) (length front) bytes ≡ (front ++ bytes) ++ drop (length (front ++ bytes)) buffer
+unfolding laid
+laid-behind buffer front bytes =
+    let n : ℕ = length front in
+    ap₂ (λ (p q : List ℕ). p ++ (bytes ++ q)) (take-at front (drop n buffer) n refl)
+      (drop-append-add front (drop n buffer) (length bytes) ∙ drop-drop (length bytes) n buffer
+       ∙ ap (λ (k : ℕ). drop k buffer) (sym (length-append front bytes)))
+    ∙ sym (append-assoc front bytes (drop (length (front ++ bytes)) buffer))
+
+-- The writer has put `front` into a buffer that was `buffer`.
+pub record Holds (w : Writer) (buffer front : List ℕ) : Type 0 where
+  pub bytes : w .buffer .now ≡ front ++ drop (length front) buffer
+  pub count : w .filled ≡ length front
+  pub over : w .register .value ≡ register front
+
+pub holds-more : (w v : Writer) (buffer front more : List ℕ) → Holds w buffer front → v .filled ≡ w .filled + length more
+    → v .register .value ≡ folded byteTaken (w .register .value) more → v .buffer .now ≡ laid (w .buffer .now) (w .filled) more
+    → Holds v buffer (front ++ more)
+unfolding register
+holds-more w v buffer front more h f r b =
+    record
+    { bytes = b ∙ ap₂ (λ (p : List ℕ) (k : ℕ). laid p k more) (h .bytes) (h .count) ∙ laid-behind buffer front more
+    ; count = f ∙ ap (λ (k : ℕ). k + length more) (h .count) ∙ sym (length-append front more)
+    ; over = r ∙ ap (λ (x : ℕ). folded byteTaken x more) (h .over) ∙ sym (folded-append 0xffff front more) }
