@@ -1,6 +1,7 @@
 pub mod Cases
 pub mod Commands
 pub mod Makings
+pub mod Names
 pub mod Openings
 pub mod Parts
 pub mod Refusals
