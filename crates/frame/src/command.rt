@@ -40,6 +40,17 @@ pub enum Parameter {
     Ignored,
 }
 
+// All parameters, in the order in which frames have them.
+pub const PARAMETERS: [Parameter; 7] = [
+    Parameter::Serial,
+    Parameter::Address,
+    Parameter::Mask,
+    Parameter::Word,
+    Parameter::Data,
+    Parameter::Length,
+    Parameter::Ignored,
+];
+
 // A command, its code, and how many bytes its frame has, from the code to the check value.
 #[derive(Clone, Copy, PartialEq, Eq, Debug)]
 pub struct Entry {

@@ -1,0 +1,106 @@
+// Prints the frame of each of the fourteen commands, for a sample serial number.
+use frame::command::COMMANDS;
+use frame::command::Command;
+use frame::command::Entry;
+use frame::command::PARAMETERS;
+use frame::making::make;
+use frame::names::CommandDisplay;
+use frame::names::ParameterDisplay;
+use frame::opening::Frame;
+use frame::opening::open;
+use std::alloc::AllocError;
+use std::alloc::Global;
+use std::error::AnyError;
+use std::fmt;
+
+const SERIAL: [u8; 8] = [0xef, 0x04, 0x02, 0x00, 0x00, 0x00, 0x00, 0x01];
+
+// A frame without parameters.
+const BARE: usize = 3;
+
+// The longest frame, for the columns and the buffer.
+const LONGEST: usize = 17;
+
+// A line of the table.
+#[derive(Drop)]
+struct Row<'a> {
+    frame: Frame<'a>,
+}
+
+impl fmt::Display for Row<'_> as RowDisplay {
+    fn fmt<W: fmt::Write>(&self, f: &mut fmt::Formatter<W>) -> fmt::Result {
+        let code = self.frame.code();
+        let name = self.frame.request().command().name();
+        let bytes = self.frame.bytes();
+        let length = bytes.len();
+        write!(f, "{code:02X}   {name:<18}  {length:>2} ")?;
+        for byte in bytes {
+            write!(f, " {byte:02X}")?;
+        }
+        if length == BARE {
+            return Ok(());
+        }
+        for _ in length..LONGEST {
+            write!(f, "   ")?;
+        }
+        for parameter in PARAMETERS {
+            if let Some(span) = self.frame.request().span(parameter) {
+                let offset = span.offset;
+                write!(f, "  {parameter} at {offset}")?;
+            }
+        }
+        Ok(())
+    }
+}
+
+// Parameters for a command, as a reader might send them.
+fn sample(heap: Global, command: Command) -> Result<Vec<u8>, AllocError> {
+    let mut bytes = Vec::new(heap);
+    match command {
+        Command::Select | Command::UnselectNe => {
+            bytes.extend_from_slice(&[0x00, 0xc0, 0xef, 0x04, 0x00, 0x00, 0x00, 0x00, 0x00, 0x00])?;
+        }
+        Command::UnselectIdFlag | Command::UnselectNoidFlag => {
+            bytes.extend_from_slice(&[0x01, 0x01])?;
+        }
+        Command::Query | Command::Scroll | Command::Repeat | Command::Reset => {}
+        Command::Read | Command::Verify | Command::Lock | Command::Qlock => {
+            bytes.extend_from_slice(&SERIAL)?;
+            bytes.push(0x08)?;
+        }
+        Command::ReadFlexible => {
+            bytes.extend_from_slice(&SERIAL)?;
+            bytes.extend_from_slice(&[0x08, 0x0f])?;
+        }
+        Command::Write => {
+            bytes.extend_from_slice(&SERIAL)?;
+            bytes.extend_from_slice(&[0x08, 0xf0, 0x11, 0x22, 0x33, 0x44])?;
+        }
+    }
+    Ok(bytes)
+}
+
+fn print_row(rt: &LibcRuntime, entry: Entry) -> Result<(), AnyError> {
+    let parameters = sample(rt.alloc(), entry.command)?;
+    let mut buffer = [0u8; LONGEST];
+    let Ok(length) = make(entry.code, parameters.as_slice(), &mut buffer) else {
+        return Err("a sample frame could not be made".into());
+    };
+    let Some(bytes) = buffer.get(0..length) else {
+        return Err("a sample frame is too long".into());
+    };
+    let Ok(frame) = open(bytes) else {
+        return Err("a sample frame does not open".into());
+    };
+    let row = Row { frame };
+    println!(rt, "{row}")?;
+    Ok(())
+}
+
+fn main(rt: LibcRuntime) -> Result<(), AnyError> {
+    println!(rt, "code command        length  bytes                                               parameters and their offsets")?;
+    for entry in COMMANDS {
+        rt.report(print_row(&rt, entry))?;
+    }
+    Ok(())
+}
