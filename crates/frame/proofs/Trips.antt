@@ -4,7 +4,7 @@ use mathlib.Core.List.{List, [], _∷_, _++_}
 use mathlib.Core.Bool.{Bool, true, false, cond}
 use Prim.Native.Nat.{ℕ, _+_, _-_, _≤_, _<_}
 use native.Mathlib.Omega.{arith}
-use lib.Dec.{eqb}
+use lib.Dec.{eqb, lit≤}
 use lib.ListN.{length, getD, take, drop}
 use Rattle.std.specs.Joined.{joined}
 use Rattle.std.specs.shelf.Lists.{All}
@@ -15,6 +15,7 @@ use Rattle.std.proofs.shelf.Equals.{sameBytes-decides}
 use Rattle.std.proofs.shelf.Lists.{nil-from-length, take-append-drop, take-at, take-append-le, drop-append-le, drop-drop, drop-more, getD-take, length-drop, length-take, length-append}
 use Rattle.crc.specs.Check.{sent, checkValue, sealed}
 use Rattle.frame.specs.declared.command.Command.{Command}
+use Rattle.frame.specs.declared.command.Command.the-variants.{Select, UnselectNe, UnselectIdFlag, UnselectNoidFlag, Query, Scroll, Repeat, Reset, Read, Verify, Lock, Qlock, ReadFlexible, Write}
 use Rattle.frame.specs.declared.command.Parameter.{Parameter}
 use Rattle.frame.specs.Commands.{codeOf, named, firstNamed, commands, layout, lengthOf, sizeOf, sizes}
 use Rattle.frame.specs.Makings.{making, made, OpensAs}
@@ -34,15 +35,15 @@ bytesIn-placed offset (p ∷ ps) bytes l =
 
 -- Each lies in the frame where it is placed, if the bytes lie there from the offset on.
 pub within-placed : (frame behind : List ℕ) (offset : ℕ) (ps : List Parameter) (bytes : List ℕ) → length bytes ≡ sizes ps
-    → drop offset frame ≡ bytes ++ behind → Within frame (placed offset ps bytes)
-within-placed frame behind offset [] bytes l e = tt
-within-placed frame behind offset (p ∷ ps) bytes l e =
+    → drop offset frame ≡ bytes ++ behind → offset + length bytes + 2 ≤ length frame → Within frame (placed offset ps bytes)
+within-placed frame behind offset [] bytes l e short = tt
+within-placed frame behind offset (p ∷ ps) bytes l e short =
     let n : ℕ = sizeOf p in
     let fits : n ≤ length bytes = omega arith in
     let count : length (take n bytes) ≡ n = simp length-take (omega arith) in
-    (ap (λ (k : ℕ). take k (drop offset frame)) count ∙ ap (take n) e ∙ take-append-le n bytes behind fits,
+    ((ap (λ (k : ℕ). take k (drop offset frame)) count ∙ ap (take n) e ∙ take-append-le n bytes behind fits, omega arith),
      within-placed frame behind (offset + n) ps (drop n bytes) (simp length-drop (omega arith))
-       (sym (drop-drop n offset frame) ∙ ap (drop n) e ∙ drop-append-le n bytes behind fits))
+       (sym (drop-drop n offset frame) ∙ ap (drop n) e ∙ drop-append-le n bytes behind fits) (simp length-drop (omega arith)))
 
 sealed-length : (message : List ℕ) → length (sealed message) ≡ length message + 2
 unfolding sealed sent
@@ -120,7 +121,7 @@ module _ (frame : List ℕ) (h : 3 ≤ length frame) (s : isSealed frame ≡ tru
 
     -- What opens lies in the frame where it says.
     pub within : Within frame (placed 1 (layout c) (parametersOf frame))
-    within = within-placed frame (drop (length frame - 2) frame) 1 (layout c) (parametersOf frame) parameters-fit behind-code
+    within = within-placed frame (drop (length frame - 2) frame) 1 (layout c) (parametersOf frame) parameters-fit behind-code (omega (arith, length-parameters frame h))
 
     -- What opens is the frame that making gives for its code and parameters.
     pub remade : making (codeOf c) (bytesIn (placed 1 (layout c) (parametersOf frame))) (length frame) ≡ made frame
@@ -129,3 +130,20 @@ module _ (frame : List ℕ) (h : 3 ≤ length frame) (s : isSealed frame ≡ tru
         ap (λ (xs : List ℕ). making (codeOf c) xs (length frame)) (bytesIn-placed 1 (layout c) (parametersOf frame) parameters-fit)
         ∙ makes (codeOf c) (parametersOf frame) (length frame) c (ap named k ∙ e) (omega (arith, parameters-fit)) (omega arith)
         ∙ ap made (ap (λ (n : ℕ). sealed (n ∷ parametersOf frame)) k ∙ ap sealed (sym front-apart) ∙ sym is-front-sealed)
+
+-- No frame is longer than WRITE's.
+pub longest : (c : Command) → lengthOf c ≤ 17
+longest Select = lit≤ tt
+longest UnselectNe = lit≤ tt
+longest UnselectIdFlag = lit≤ tt
+longest UnselectNoidFlag = lit≤ tt
+longest Query = lit≤ tt
+longest Scroll = lit≤ tt
+longest Repeat = lit≤ tt
+longest Reset = lit≤ tt
+longest Read = lit≤ tt
+longest Verify = lit≤ tt
+longest Lock = lit≤ tt
+longest Qlock = lit≤ tt
+longest ReadFlexible = lit≤ tt
+longest Write = lit≤ tt

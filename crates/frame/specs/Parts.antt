@@ -2,7 +2,7 @@
 use mathlib.Core.List.{List, [], _∷_}
 use mathlib.Core.Bool.{cond}
 use mathlib.Core.Path.{_≡_}
-use Prim.Native.Nat.{ℕ, _+_}
+use Prim.Native.Nat.{ℕ, _+_, _≤_}
 use lib.Dec.{eqb}
 use lib.ListN.{length, take, drop}
 use Rattle.std.specs.Joined.{joined}
@@ -30,9 +30,10 @@ placed offset (p ∷ ps) bytes =
 abbrev pub bytesIn : List Part → List ℕ
 bytesIn parts = joined (λ p. p .bytes) parts
 
--- Each part's bytes are those of the frame at its offset.
+-- Each part's bytes are those of the frame at its offset, and end before the check value.
 abbrev pub Within : List ℕ → List Part → Type 0
-Within frame parts = All (λ p. take (length (p .bytes)) (drop (p .offset) frame) ≡ p .bytes) parts
+Within frame parts =
+    All (λ p. (take (length (p .bytes)) (drop (p .offset) frame) ≡ p .bytes) × (p .offset + length (p .bytes) + 2 ≤ length frame)) parts
 
 -- The parameters by number, in the order in which frames have them.
 abbrev pub placeOf : Parameter → ℕ

@@ -30,6 +30,7 @@ pub fn open(bytes: &[u8]) -> Result<Frame<'_>, Refusal>
     ensures bytes { λ r. ⌜ whenMade r (λ f. now (f .bytes) ≡ now (bytes .entry)) ⌝ }
     ensures within { λ r. ⌜ whenMade r (λ f. Within (now (bytes .entry)) (partsOf (f .request))) ⌝ }
     ensures remade { λ r. ⌜ whenMade r (λ f. making (f .code) (bytesIn (partsOf (f .request))) (length (now (bytes .entry))) ≡ made (now (bytes .entry))) ⌝ }
+    ensures longest { λ r. ⌜ whenMade r (λ _. length (now (bytes .entry)) ≤ 17) ⌝ }
     ensures damaged { λ _. ⌜ Damaged-frames ⌝ }
 {
     let (code, parameters) = unsealed(bytes)?;

@@ -12,7 +12,7 @@ use Rattle.frame.specs.Makings.{making}
 use Rattle.frame.specs.Parts.{Part, placed, bytesIn, Within}
 use Rattle.std.specs.declared.option.Option.the-variants.{Some}
 use Rattle.frame.proofs.Limits.{damaged-frames}
-use Rattle.frame.proofs.Trips.{within, remade}
+use Rattle.frame.proofs.Trips.{within, remade, longest}
 use Rattle.frame.specs.Requests.{commandOf, partsOf}
 use Rattle.frame.proofs.Seals.{length-parameters}
 use Rattle.frame.proofs.Opens.{refused-as, no-code, bad-length, opens, found-none, found-some}
@@ -27,6 +27,7 @@ returns-in-Break-code c =
      ; bytes = tt
      ; within = tt
      ; remade = tt
+     ; longest = tt
      ; damaged = damaged-frames })
 
 pub returns-in-rest : need.returns-in-rest
@@ -37,6 +38,7 @@ returns-in-rest c =
     ; bytes = tt
     ; within = tt
     ; remade = tt
+    ; longest = tt
     ; damaged = damaged-frames }
 
 pub returns-then-bytes-entry : need.returns-then-bytes-entry
@@ -49,6 +51,7 @@ returns-then-bytes-entry c =
     ; bytes = tt
     ; within = tt
     ; remade = tt
+    ; longest = tt
     ; damaged = damaged-frames }
 
 pub of-requires : need.of-requires
@@ -77,4 +80,5 @@ returns c =
     ; bytes = refl
     ; within = subst (Within frame) (sym parts) (within frame (u .0) (u .1) k name l)
     ; remade = ap₂ (λ (n : ℕ) (ps : List Part). making n (bytesIn ps) (length frame)) code parts ∙ remade frame (u .0) (u .1) k name l
+    ; longest = omega (arith, longest k)
     ; damaged = damaged-frames }
