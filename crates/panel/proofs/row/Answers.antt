@@ -1,0 +1,4 @@
+use Rattle.panel.proofs.row.Needs as need
+
+pub returns : need.returns
+returns c = cc
