@@ -60,8 +60,8 @@ moved-xor : (r s : ℕ) → r < 0x10000 → s < 0x8000 → moved (bitXor r s) �
 moved-xor r s hr hs =
     ⊎-elim (λ h. moved-xor-low r s h hs)
     (λ h.
-      let e : 0x8000 + (r - 0x8000) ≡ r = omega arith in
-      subst (λ (x : ℕ). moved (bitXor x s) ≡ bitXor (moved x) (s * 2)) e (moved-xor-high (r - 0x8000) s (omega arith) hs))
+    let e : 0x8000 + (r - 0x8000) ≡ r = omega arith in
+    subst (λ (x : ℕ). moved (bitXor x s) ≡ bitXor (moved x) (s * 2)) e (moved-xor-high (r - 0x8000) s (omega arith) hs))
     (cases-lt r 0x8000)
 
 pub moved-fits : (r : ℕ) → r < 0x10000 → moved r < 0x10000
@@ -96,15 +96,15 @@ met-more i j r y hr hy e =
     let p : 2 ^ suc i ≡ 2 ^ i * 2 = pow-suc 2 i in
     let low : y % 2 * 2 ^ i < 2 * 2 ^ i = mul-lt-mul-of-pos-right (omega arith) (pow-pos i) in
     let whole : y / 2 * 2 ^ suc i + y % 2 * 2 ^ i ≡ y * 2 ^ i =
-      ap (λ (x : ℕ). y / 2 * x + y % 2 * 2 ^ i) (p ∙ mul-comm (2 ^ i) 2) ∙ ap (λ (x : ℕ). x + y % 2 * 2 ^ i) (sym (mul-assoc (y / 2) 2 (2 ^ i)))
-      ∙ sym (add-mul (y / 2 * 2) (y % 2) (2 ^ i)) ∙ ap (λ (x : ℕ). x * 2 ^ i) (div-add-mod' y 2) in
+    ap (λ (x : ℕ). y / 2 * x + y % 2 * 2 ^ i) (p ∙ mul-comm (2 ^ i) 2) ∙ ap (λ (x : ℕ). x + y % 2 * 2 ^ i) (sym (mul-assoc (y / 2) 2 (2 ^ i)))
+    ∙ sym (add-mul (y / 2 * 2) (y % 2) (2 ^ i)) ∙ ap (λ (x : ℕ). x * 2 ^ i) (div-add-mod' y 2) in
     let high : bitXor r (y / 2 * 2 ^ suc i) < 0x10000 = xor-lt 16 r (y / 2 * 2 ^ suc i) hr (omega arith) in
     ap moved
     (ap (bitXor (times j (bitXor r (y / 2 * 2 ^ suc i)))) (sym e)
-     ∙ sym (times-xor j (bitXor r (y / 2 * 2 ^ suc i)) (y % 2 * 2 ^ i) high (omega arith))
-     ∙ ap (times j)
-       (xor-assoc r (y / 2 * 2 ^ suc i) (y % 2 * 2 ^ i)
-        ∙ ap (bitXor r) (xor-shifted (y / 2) (suc i) (y % 2 * 2 ^ i) (omega arith) ∙ whole)))
+    ∙ sym (times-xor j (bitXor r (y / 2 * 2 ^ suc i)) (y % 2 * 2 ^ i) high (omega arith))
+    ∙ ap (times j)
+    (xor-assoc r (y / 2 * 2 ^ suc i) (y % 2 * 2 ^ i)
+    ∙ ap (bitXor r) (xor-shifted (y / 2) (suc i) (y % 2 * 2 ^ i) (omega arith) ∙ whole)))
 
 next : (i j r y z q : ℕ) → r < 0x10000 → y * 2 ^ i < 0x10000 → y % 2 * 2 ^ i * 2 ^ j ≡ y % 2 * 0x8000
     → z ≡ y / 2 → q ≡ times j (bitXor r (z * 2 ^ suc i)) → bitTaken q (y % 2) ≡ times (suc j) (bitXor r (y * 2 ^ i))
@@ -136,7 +136,7 @@ byte-taken h l x hh hl hx =
     let z : x * 256 + 0 ≡ x * 256 = omega arith in
     byte-met (h * 256 + l) x (omega arith) hx
     ∙ ap (times 8)
-      (ap (bitXor (h * 256 + l)) (sym z) ∙ parts ∙ ap (λ (q : ℕ). y * 256 + q) (xor-zero-r l) ∙ sym (xor-shifted y 8 l hl))
+    (ap (bitXor (h * 256 + l)) (sym z) ∙ parts ∙ ap (λ (q : ℕ). y * 256 + q) (xor-zero-r l) ∙ sym (xor-shifted y 8 l hl))
     ∙ times-xor 8 (y * 256) l (omega arith) (omega arith) ∙ xor-comm (times 8 (y * 256)) (l * 256)
     ∙ ap (bitXor (l * 256)) (sym (byte-met 0 y (omega arith) hy))
 
@@ -196,7 +196,7 @@ two-met r h l hr hh hl =
     byte-met (byteTaken r h) l (byteTaken-fits r h hr) hl
     ∙ ap (λ (q : ℕ). times 8 (bitXor q (l * 256))) (byte-met r h hr hh)
     ∙ ap (times 8)
-      (sym (times-xor 8 m l hm (omega arith)) ∙ ap (times 8) (xor-assoc r (h * 256) l ∙ ap (bitXor r) (xor-shifted h 8 l hl)))
+    (sym (times-xor 8 m l hm (omega arith)) ∙ ap (times 8) (xor-assoc r (h * 256) l ∙ ap (bitXor r) (xor-shifted h 8 l hl)))
 
 residue-from : (r : ℕ) → r < 0x10000 → byteTaken (byteTaken r ((0xffff - r) / 256 % 256)) ((0xffff - r) % 256) ≡ 0x1d0f
 unfolding moved

@@ -67,10 +67,10 @@ module _ (code : ℕ) (rest : List ℕ) (long : 2 ≤ length rest) where
       let m : n + 1 ≡ length rest - 1 = omega arith in
       sym (take-append-drop n rest)
       ∙ ap (λ (xs : List ℕ). parameters ++ xs)
-        (drop-more rest n 0 (omega arith)
-         ∙ ap (λ (xs : List ℕ). high ∷ xs)
-           (ap (λ (k : ℕ). drop k rest) m ∙ drop-more rest (length rest - 1) 0 (omega arith)
-            ∙ ap (λ (xs : List ℕ). low ∷ xs) (drop-all (length rest - 1 + 1) rest (omega arith))))
+      (drop-more rest n 0 (omega arith)
+      ∙ ap (λ (xs : List ℕ). high ∷ xs)
+      (ap (λ (k : ℕ). drop k rest) m ∙ drop-more rest (length rest - 1) 0 (omega arith)
+      ∙ ap (λ (xs : List ℕ). low ∷ xs) (drop-all (length rest - 1 + 1) rest (omega arith))))
 
   pub front-is : front (code ∷ rest) ≡ code ∷ parameters
   unfolding front
@@ -89,15 +89,15 @@ module _ (code : ℕ) (rest : List ℕ) (long : 2 ≤ length rest) where
   right e h l =
       sealed-is
       ∙ sameBytes-decides (code ∷ rest) (sealed (code ∷ parameters)) .1
-        (ap (λ (xs : List ℕ). code ∷ xs) (rest-apart ∙ ap (λ (xs : List ℕ). parameters ++ xs) (sym (two-bytes _ high low e h l))))
+      (ap (λ (xs : List ℕ). code ∷ xs) (rest-apart ∙ ap (λ (xs : List ℕ). parameters ++ xs) (sym (two-bytes _ high low e h l))))
 
   pub wrong : (checkValue (code ∷ parameters) ≡ high * 256 + low → ⊥) → isSealed (code ∷ rest) ≡ false
   unfolding sealed
   wrong other =
       ⊎-elim
       (λ t.
-        let same : code ∷ rest ≡ code ∷ (parameters ++ sent (checkValue (code ∷ parameters))) =
-          sameBytes-decides (code ∷ rest) (sealed (code ∷ parameters)) .0 (sym sealed-is ∙ t) in
-        absurd (other (of-two _ high low (checkValue-fits (code ∷ parameters))
-          (sym (append-cancel-left parameters (high ∷ low ∷ []) (sent (checkValue (code ∷ parameters))) (sym rest-apart ∙ ap (drop 1) same))))))
+      let same : code ∷ rest ≡ code ∷ (parameters ++ sent (checkValue (code ∷ parameters))) =
+      sameBytes-decides (code ∷ rest) (sealed (code ∷ parameters)) .0 (sym sealed-is ∙ t) in
+      absurd (other (of-two _ high low (checkValue-fits (code ∷ parameters))
+      (sym (append-cancel-left parameters (high ∷ low ∷ []) (sent (checkValue (code ∷ parameters))) (sym rest-apart ∙ ap (drop 1) same))))))
       (λ f. f) (cases-bool (isSealed (code ∷ rest)))

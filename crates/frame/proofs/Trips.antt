@@ -30,7 +30,7 @@ pub bytesIn-placed : (offset : ℕ) (ps : List Parameter) (bytes : List ℕ) →
 bytesIn-placed offset [] bytes l = sym (nil-from-length bytes l)
 bytesIn-placed offset (p ∷ ps) bytes l =
     ap (λ (xs : List ℕ). take (sizeOf p) bytes ++ xs)
-      (bytesIn-placed (offset + sizeOf p) ps (drop (sizeOf p) bytes) (simp length-drop (omega arith)))
+    (bytesIn-placed (offset + sizeOf p) ps (drop (sizeOf p) bytes) (simp length-drop (omega arith)))
     ∙ take-append-drop (sizeOf p) bytes
 
 -- Each lies in the frame where it is placed, if the bytes lie there from the offset on.
@@ -40,10 +40,11 @@ within-placed frame behind offset [] bytes l e short = tt
 within-placed frame behind offset (p ∷ ps) bytes l e short =
     let n : ℕ = sizeOf p in
     let fits : n ≤ length bytes = omega arith in
-    let count : length (take n bytes) ≡ n = simp length-take (omega arith) in
-    ((ap (λ (k : ℕ). take k (drop offset frame)) count ∙ ap (take n) e ∙ take-append-le n bytes behind fits, omega arith),
-     within-placed frame behind (offset + n) ps (drop n bytes) (simp length-drop (omega arith))
-       (sym (drop-drop n offset frame) ∙ ap (drop n) e ∙ drop-append-le n bytes behind fits) (simp length-drop (omega arith)))
+    let count : length (take n bytes) ≡ n = simp length-take (omega arith) in (
+      (ap (λ (k : ℕ). take k (drop offset frame)) count ∙ ap (take n) e ∙ take-append-le n bytes behind fits, omega arith),
+      within-placed frame behind (offset + n) ps (drop n bytes) (simp length-drop (omega arith))
+          (sym (drop-drop n offset frame) ∙ ap (drop n) e ∙ drop-append-le n bytes behind fits) (simp length-drop (omega arith)),
+    )
 
 sealed-length : (message : List ℕ) → length (sealed message) ≡ length message + 2
 unfolding sealed sent
@@ -81,12 +82,14 @@ opens-back code parameters c e l =
     let frame : List ℕ = sealed (code ∷ parameters) in
     let long : length frame ≡ length parameters + 3 = omega (arith, sealed-length (code ∷ parameters)) in
     let first : getD frame 0 0 ≡ code = first-byte code parameters in
-    let ps : parametersOf frame ≡ parameters = ap (drop 1) (front-sealed (code ∷ parameters)) in
-    (c, placed 1 (layout c) parameters,
-     opens frame (omega arith) (is-sealed (code ∷ parameters)) c (ap named first ∙ e) (long ∙ l)
-     ∙ ap (λ (n : ℕ). opened n c (placed 1 (layout c) (parametersOf frame))) (named-code code c e)
-     ∙ ap (λ (xs : List ℕ). opened code c (placed 1 (layout c) xs)) ps,
-     bytesIn-placed 1 (layout c) parameters (omega arith))
+    let ps : parametersOf frame ≡ parameters = ap (drop 1) (front-sealed (code ∷ parameters)) in (
+      c,
+      placed 1 (layout c) parameters,
+      opens frame (omega arith) (is-sealed (code ∷ parameters)) c (ap named first ∙ e) (long ∙ l)
+          ∙ ap (λ (n : ℕ). opened n c (placed 1 (layout c) (parametersOf frame))) (named-code code c e)
+          ∙ ap (λ (xs : List ℕ). opened code c (placed 1 (layout c) xs)) ps,
+      bytesIn-placed 1 (layout c) parameters (omega arith),
+    )
 
 -- The same of a buffer at whose front the frame stands.
 pub opens-at : (code : ℕ) (parameters buffer : List ℕ) (n : ℕ) (rest : List ℕ) → buffer ≡ sealed (code ∷ parameters) ++ rest → n ≡ length (sealed (code ∷ parameters))

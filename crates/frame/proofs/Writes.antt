@@ -22,8 +22,8 @@ unfolding laid
 laid-behind buffer front bytes =
     let n : ℕ = length front in
     ap₂ (λ (p q : List ℕ). p ++ (bytes ++ q)) (take-at front (drop n buffer) n refl)
-      (drop-append-add front (drop n buffer) (length bytes) ∙ drop-drop (length bytes) n buffer
-       ∙ ap (λ (k : ℕ). drop k buffer) (sym (length-append front bytes)))
+    (drop-append-add front (drop n buffer) (length bytes) ∙ drop-drop (length bytes) n buffer
+    ∙ ap (λ (k : ℕ). drop k buffer) (sym (length-append front bytes)))
     ∙ sym (append-assoc front bytes (drop (length (front ++ bytes)) buffer))
 
 -- The writer has put `front` into a buffer that was `buffer`.
@@ -37,7 +37,8 @@ pub holds-more : (w v : Writer) (buffer front more : List ℕ) → Holds w buffe
     → Holds v buffer (front ++ more)
 unfolding register
 holds-more w v buffer front more h f r b =
-    record
-    { bytes = b ∙ ap₂ (λ (p : List ℕ) (k : ℕ). laid p k more) (h .bytes) (h .count) ∙ laid-behind buffer front more
-    ; count = f ∙ ap (λ (k : ℕ). k + length more) (h .count) ∙ sym (length-append front more)
-    ; over = r ∙ ap (λ (x : ℕ). folded byteTaken x more) (h .over) ∙ sym (folded-append 0xffff front more) }
+    record {
+      bytes = b ∙ ap₂ (λ (p : List ℕ) (k : ℕ). laid p k more) (h .bytes) (h .count) ∙ laid-behind buffer front more;
+      count = f ∙ ap (λ (k : ℕ). k + length more) (h .count) ∙ sym (length-append front more);
+      over = r ∙ ap (λ (x : ℕ). folded byteTaken x more) (h .over) ∙ sym (folded-append 0xffff front more);
+    }

@@ -61,20 +61,76 @@ pub struct Entry {
 
 // All commands. Opening and making both go by this table.
 pub const COMMANDS: [Entry; 14] = [
-    Entry { command: Command::Select, code: 0x00, length: 13 },
-    Entry { command: Command::UnselectNe, code: 0x05, length: 13 },
-    Entry { command: Command::UnselectIdFlag, code: 0x19, length: 5 },
-    Entry { command: Command::UnselectNoidFlag, code: 0x1a, length: 5 },
-    Entry { command: Command::Query, code: 0x08, length: 3 },
-    Entry { command: Command::Scroll, code: 0x09, length: 3 },
-    Entry { command: Command::Repeat, code: 0x15, length: 3 },
-    Entry { command: Command::Reset, code: 0x0a, length: 3 },
-    Entry { command: Command::Read, code: 0x0c, length: 12 },
-    Entry { command: Command::Verify, code: 0x1d, length: 12 },
-    Entry { command: Command::Lock, code: 0x0f, length: 12 },
-    Entry { command: Command::Qlock, code: 0x11, length: 12 },
-    Entry { command: Command::ReadFlexible, code: 0x51, length: 13 },
-    Entry { command: Command::Write, code: 0x1b, length: 17 },
+    Entry {
+        command: Command::Select,
+        code: 0x00,
+        length: 13,
+    },
+    Entry {
+        command: Command::UnselectNe,
+        code: 0x05,
+        length: 13,
+    },
+    Entry {
+        command: Command::UnselectIdFlag,
+        code: 0x19,
+        length: 5,
+    },
+    Entry {
+        command: Command::UnselectNoidFlag,
+        code: 0x1a,
+        length: 5,
+    },
+    Entry {
+        command: Command::Query,
+        code: 0x08,
+        length: 3,
+    },
+    Entry {
+        command: Command::Scroll,
+        code: 0x09,
+        length: 3,
+    },
+    Entry {
+        command: Command::Repeat,
+        code: 0x15,
+        length: 3,
+    },
+    Entry {
+        command: Command::Reset,
+        code: 0x0a,
+        length: 3,
+    },
+    Entry {
+        command: Command::Read,
+        code: 0x0c,
+        length: 12,
+    },
+    Entry {
+        command: Command::Verify,
+        code: 0x1d,
+        length: 12,
+    },
+    Entry {
+        command: Command::Lock,
+        code: 0x0f,
+        length: 12,
+    },
+    Entry {
+        command: Command::Qlock,
+        code: 0x11,
+        length: 12,
+    },
+    Entry {
+        command: Command::ReadFlexible,
+        code: 0x51,
+        length: 13,
+    },
+    Entry {
+        command: Command::Write,
+        code: 0x1b,
+        length: 17,
+    },
 ];
 
 // The entry of a code, if a command has it.

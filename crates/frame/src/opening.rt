@@ -10,10 +10,10 @@ ghost use Rattle.frame.specs.Makings.{making, made};
 ghost use Rattle.frame.specs.Openings.{opening, seen, isSealed, parametersOf, refusedAs};
 ghost use Rattle.frame.specs.Parts.{bytesIn, Within};
 ghost use Rattle.frame.specs.Requests.{partsOf};
-use crc::Register;
 use crate::command::find;
 use crate::refusal::Refusal;
 use crate::request::Request;
+use crc::Register;
 
 // A frame that opened: the caller's bytes, their code and their request.
 #[derive(Clone, Copy)]
@@ -40,7 +40,11 @@ pub fn open(bytes: &[u8]) -> Result<Frame<'_>, Refusal>
     if bytes.len() != entry.length {
         return Err(Refusal::Length);
     }
-    Ok(Frame { bytes, code: entry.code, request: Request::of(entry.command, parameters) })
+    Ok(Frame {
+        bytes,
+        code: entry.code,
+        request: Request::of(entry.command, parameters),
+    })
 }
 
 impl<'a> Frame<'a> {
@@ -84,4 +88,3 @@ fn unsealed(bytes: &[u8]) -> Result<(u8, &[u8]), Refusal>
     }
     Ok((*code, parameters))
 }
-

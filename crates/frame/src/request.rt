@@ -93,13 +93,18 @@ impl<'a> Request<'a> {
         ensures { λ r. ⌜ r ≡ spanOf parameter (partsOf (now (self .entry))) ⌝ }
     {
         match self {
-            Request::Select(comparison) | Request::UnselectNe(comparison) => comparison.span(parameter),
+            Request::Select(comparison) | Request::UnselectNe(comparison) => comparison.span(
+                parameter,
+            ),
             Request::UnselectIdFlag(bytes) | Request::UnselectNoidFlag(bytes) => match parameter {
                 Parameter::Ignored => Some(bytes.span()),
                 _ => None,
             },
             Request::Query | Request::Scroll | Request::Repeat | Request::Reset => None,
-            Request::Read(target) | Request::Verify(target) | Request::Lock(target) | Request::Qlock(target) => target.span(parameter),
+            Request::Read(target)
+            | Request::Verify(target)
+            | Request::Lock(target)
+            | Request::Qlock(target) => target.span(parameter),
             Request::ReadFlexible(target, length) => match parameter {
                 Parameter::Length => Some(length.span()),
                 _ => target.span(parameter),
@@ -145,7 +150,13 @@ impl<'a> Request<'a> {
         let [target @ .., length] = parameters else {
             unreachable()
         };
-        Request::ReadFlexible(Target::of(target), ByteAt { offset: 10, byte: length })
+        Request::ReadFlexible(
+            Target::of(target),
+            ByteAt {
+                offset: 10,
+                byte: length,
+            },
+        )
     }
 
     // A target, a mask and four bytes.
@@ -160,7 +171,14 @@ impl<'a> Request<'a> {
         let [_, _, _, _, _, _, _, _, _, _, bytes @ ..] = parameters else {
             unreachable()
         };
-        Request::Write(Target::of(target), ByteAt { offset: 10, byte: mask }, BytesAt { offset: 11, bytes })
+        Request::Write(
+            Target::of(target),
+            ByteAt {
+                offset: 10,
+                byte: mask,
+            },
+            BytesAt { offset: 11, bytes },
+        )
     }
 }
 
@@ -169,7 +187,10 @@ impl<'a> ByteAt<'a> {
         ensures offset { λ r. ⌜ r .offset ≡ now (self .entry) .offset ⌝ }
         ensures length { λ r. ⌜ r .length ≡ 1 ⌝ }
     {
-        Span { offset: self.offset, length: 1 }
+        Span {
+            offset: self.offset,
+            length: 1,
+        }
     }
 }
 
@@ -178,7 +199,10 @@ impl<'a> BytesAt<'a> {
         ensures offset { λ r. ⌜ r .offset ≡ now (self .entry) .offset ⌝ }
         ensures length { λ r. ⌜ r .length ≡ length (now (now (self .entry) .bytes)) ⌝ }
     {
-        Span { offset: self.offset, length: self.bytes.len() }
+        Span {
+            offset: self.offset,
+            length: self.bytes.len(),
+        }
     }
 
     // The two bytes that no tag looks at.
@@ -186,7 +210,10 @@ impl<'a> BytesAt<'a> {
         requires { ⌜ length (now parameters) ≡ 2 ⌝ }
         ensures { λ r. ⌜ bytesAt Ignored r ∷ [] ≡ placed 1 (Ignored ∷ []) (now (parameters .entry)) ⌝ }
     {
-        BytesAt { offset: 1, bytes: parameters }
+        BytesAt {
+            offset: 1,
+            bytes: parameters,
+        }
     }
 }
 
@@ -211,9 +238,18 @@ impl<'a> Comparison<'a> {
             unreachable()
         };
         Comparison {
-            address: ByteAt { offset: 1, byte: address },
-            mask: ByteAt { offset: 2, byte: mask },
-            word: BytesAt { offset: 3, bytes: word },
+            address: ByteAt {
+                offset: 1,
+                byte: address,
+            },
+            mask: ByteAt {
+                offset: 2,
+                byte: mask,
+            },
+            word: BytesAt {
+                offset: 3,
+                bytes: word,
+            },
         }
     }
 }
@@ -237,6 +273,15 @@ impl<'a> Target<'a> {
         let [serial @ .., address] = parameters else {
             unreachable()
         };
-        Target { serial: BytesAt { offset: 1, bytes: serial }, address: ByteAt { offset: 9, byte: address } }
+        Target {
+            serial: BytesAt {
+                offset: 1,
+                bytes: serial,
+            },
+            address: ByteAt {
+                offset: 9,
+                byte: address,
+            },
+        }
     }
 }

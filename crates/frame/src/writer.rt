@@ -11,8 +11,8 @@ ghost use Rattle.std.specs.Vec.{refused};
 ghost use Rattle.crc.specs.Check.{register as registerOver, byteTaken, sent};
 ghost use Rattle.frame.specs.Cases.{Short-replies};
 ghost use Rattle.frame.specs.Writing.{hasRoom, laid};
-use crc::Register;
 use crate::refusal::Refusal;
+use crc::Register;
 
 // The buffer, how many of its bytes are filled, and the register over those that were put.
 #[derive(Drop)]
@@ -29,7 +29,11 @@ impl<'a> Writer<'a> {
         ensures buffer { λ r. ⌜ now (r .buffer) ≡ now (buffer .entry) ⌝ }
         ensures lender { λ r. ⌜ name (r .buffer) ≡ name (buffer .entry) ⌝ }
     {
-        Writer { buffer, filled: 0, register: Register::preset() }
+        Writer {
+            buffer,
+            filled: 0,
+            register: Register::preset(),
+        }
     }
 
     // Puts some bytes behind those that are there, or none of them where they do not all fit.

@@ -111,7 +111,9 @@ fn answer_make(rt: &LibcRuntime, code: &str, text: &str, room: &str) -> Result<(
     let parameters = bytes(rt.alloc(), text)?;
     let mut buffer = filled(rt.alloc(), room.parse::<usize>()?)?;
     let made = make(code, parameters.as_slice(), buffer.as_mut_slice());
-    let after = Hex { bytes: buffer.as_slice() };
+    let after = Hex {
+        bytes: buffer.as_slice(),
+    };
     match made {
         Ok(length) => println!(rt, "made {length} {after}")?,
         Err(refusal) => println!(rt, "refused {} {after}", refusal.number())?,

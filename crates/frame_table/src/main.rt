@@ -98,7 +98,10 @@ fn print_row(rt: &LibcRuntime, entry: Entry) -> Result<(), AnyError> {
 }
 
 fn main(rt: LibcRuntime) -> Result<(), AnyError> {
-    println!(rt, "code command        length  bytes                                               parameters and their offsets")?;
+    println!(
+        rt,
+        "code command        length  bytes                                               parameters and their offsets"
+    )?;
     for entry in COMMANDS {
         rt.report(print_row(&rt, entry))?;
     }

@@ -27,7 +27,7 @@ lengthIn (Some s) = s .length
 abbrev pub shownOf : ℕ → List Part → List ℕ
 shownOf code parts =
     code ∷ joined (λ p. offsetIn (spanOf p parts) ∷ lengthIn (spanOf p parts) ∷ [])
-      (Serial ∷ Address ∷ Mask ∷ Word ∷ Data ∷ Length ∷ Ignored ∷ [])
+    (Serial ∷ Address ∷ Mask ∷ Word ∷ Data ∷ Length ∷ Ignored ∷ [])
 
 -- 0, or the number of a refusal: one of opening's, or 5 for want of room.
 abbrev pub answering : Opening → ℕ → ℕ

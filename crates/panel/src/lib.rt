@@ -68,13 +68,20 @@ fn row(frame: &Frame<'_>) -> [u8; SHOWN]
     let (ignored, ignored_length) = pair(&request, Parameter::Ignored);
     [
         frame.code(),
-        serial, serial_length,
-        address, address_length,
-        mask, mask_length,
-        word, word_length,
-        block, block_length,
-        length, length_length,
-        ignored, ignored_length,
+        serial,
+        serial_length,
+        address,
+        address_length,
+        mask,
+        mask_length,
+        word,
+        word_length,
+        block,
+        block_length,
+        length,
+        length_length,
+        ignored,
+        ignored_length,
     ]
 }
 

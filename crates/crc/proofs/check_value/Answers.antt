@@ -10,5 +10,5 @@ pub returns : need.returns
 unfolding checkValue sealed register
 returns c =
     let v : c .check-value .result ≡ checkValue (c .args .message .now) =
-      c .check-value .ensures ∙ ap (λ (r : ℕ). 0xffff - r) (c .take .ensures ∙ ap (λ (r : ℕ). folded byteTaken r (c .args .message .now)) (c .preset-register .ensures)) in
+    c .check-value .ensures ∙ ap (λ (r : ℕ). 0xffff - r) (c .take .ensures ∙ ap (λ (r : ℕ). folded byteTaken r (c .args .message .now)) (c .preset-register .ensures)) in
     record { value = v; residue = ap (λ (r : ℕ). register (c .args .message .now ++ sent r)) v ∙ residue (c .args .message .now) }

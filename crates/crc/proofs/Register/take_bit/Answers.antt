@@ -29,6 +29,7 @@ returns c =
     let b : c .from .result ≡ cond (c .args .bit) 1 0 = c .from .ensures ∙ number (c .args .bit) in
     let met : ℕ = bitXor r (c .from .result * 0x8000) in
     let bit : moved met ≡ moved (bitXor r (cond (c .args .bit) 1 0 * 0x8000)) = ap (λ (y : ℕ). moved (bitXor r (y * 0x8000))) b in
-    elim (c .if-met-lt-TOP .came)
-    [ then-met-lt-TOP w ↦ w .self-is ∙ sym (moved-low met (w .if-met-lt-TOP .taken)) ∙ bit
-    | else-met-lt-TOP w ↦ w .self-is ∙ sym (moved-high met (w .if-met-lt-TOP .left)) ∙ bit ]
+    elim (c .if-met-lt-TOP .came) [
+      | then-met-lt-TOP w ↦ w .self-is ∙ sym (moved-low met (w .if-met-lt-TOP .taken)) ∙ bit
+      | else-met-lt-TOP w ↦ w .self-is ∙ sym (moved-high met (w .if-met-lt-TOP .left)) ∙ bit
+    ]

@@ -22,37 +22,40 @@ pub returns-in-Break-code : need.returns-in-Break-code
 returns-in-Break-code c =
     let p = err-from-errBy (c .from-residual .result) (c .from-residual .ensures .1) in
     rw (p .1, p .2)
-    (record
-     { seen = refused-as (c .args .bytes .now) (c .in-Break-code .field-0 .0) (c .in-Break-code .ensures tt)
-     ; bytes = tt
-     ; within = tt
-     ; remade = tt
-     ; longest = tt
-     ; damaged = damaged-frames })
+    (record {
+      seen = refused-as (c .args .bytes .now) (c .in-Break-code .field-0 .0) (c .in-Break-code .ensures tt);
+      bytes = tt;
+      within = tt;
+      remade = tt;
+      longest = tt;
+      damaged = damaged-frames;
+    })
 
 pub returns-in-rest : need.returns-in-rest
 returns-in-rest c =
     let u = c .in-Continue-code .ensures tt in
-    record
-    { seen = sym (no-code (c .args .bytes .now) (u .0) (u .1) (ap named (sym (u .2)) ∙ found-none (named (c .in-Continue-code .code)) (c .in-rest .ensures tt)))
-    ; bytes = tt
-    ; within = tt
-    ; remade = tt
-    ; longest = tt
-    ; damaged = damaged-frames }
+    record {
+      seen = sym (no-code (c .args .bytes .now) (u .0) (u .1) (ap named (sym (u .2)) ∙ found-none (named (c .in-Continue-code .code)) (c .in-rest .ensures tt)));
+      bytes = tt;
+      within = tt;
+      remade = tt;
+      longest = tt;
+      damaged = damaged-frames;
+    }
 
 pub returns-then-bytes-entry : need.returns-then-bytes-entry
 returns-then-bytes-entry c =
     let u = c .in-Continue-code .ensures tt in
     let f = found-some (named (c .in-Continue-code .code)) (c .in-Some .entry) (c .in-Some .ensures tt) in
-    record
-    { seen = sym (bad-length (c .args .bytes .now) (u .0) (u .1) (c .in-Some .entry .command) (ap named (sym (u .2)) ∙ f .0)
-        (λ l. c .if-bytes-entry .taken (l ∙ sym (ap (λ (e : Entry). e .length) (f .1)))))
-    ; bytes = tt
-    ; within = tt
-    ; remade = tt
-    ; longest = tt
-    ; damaged = damaged-frames }
+    record {
+      seen = sym (bad-length (c .args .bytes .now) (u .0) (u .1) (c .in-Some .entry .command) (ap named (sym (u .2)) ∙ f .0)
+          (λ l. c .if-bytes-entry .taken (l ∙ sym (ap (λ (e : Entry). e .length) (f .1)))));
+      bytes = tt;
+      within = tt;
+      remade = tt;
+      longest = tt;
+      damaged = damaged-frames;
+    }
 
 pub of-requires : need.of-requires
 of-requires c κs =
@@ -72,13 +75,14 @@ returns c =
     let name : named (getD frame 0 0) ≡ Some k = ap named (sym (u .2)) ∙ f .0 in
     let code : c .in-Some .entry .code ≡ codeOf k = ap (λ (e : Entry). e .code) (f .1) in
     let parts : partsOf (c .of .result) ≡ placed 1 (layout k) (parametersOf frame) = c .of .ensures .parts ∙ ap (placed 1 (layout k)) (u .3) in
-    record
-    { seen =
-        ap (λ (n : ℕ). opened n (commandOf (c .of .result)) (partsOf (c .of .result))) code
-        ∙ ap (λ (d : Command). opened (codeOf k) d (partsOf (c .of .result))) (c .of .ensures .command)
-        ∙ ap (opened (codeOf k) k) parts ∙ sym (opens frame (u .0) (u .1) k name l)
-    ; bytes = refl
-    ; within = subst (Within frame) (sym parts) (within frame (u .0) (u .1) k name l)
-    ; remade = ap₂ (λ (n : ℕ) (ps : List Part). making n (bytesIn ps) (length frame)) code parts ∙ remade frame (u .0) (u .1) k name l
-    ; longest = omega (arith, longest k)
-    ; damaged = damaged-frames }
+    record {
+      seen =
+          ap (λ (n : ℕ). opened n (commandOf (c .of .result)) (partsOf (c .of .result))) code
+          ∙ ap (λ (d : Command). opened (codeOf k) d (partsOf (c .of .result))) (c .of .ensures .command)
+          ∙ ap (opened (codeOf k) k) parts ∙ sym (opens frame (u .0) (u .1) k name l);
+      bytes = refl;
+      within = subst (Within frame) (sym parts) (within frame (u .0) (u .1) k name l);
+      remade = ap₂ (λ (n : ℕ) (ps : List Part). making n (bytesIn ps) (length frame)) code parts ∙ remade frame (u .0) (u .1) k name l;
+      longest = omega (arith, longest k);
+      damaged = damaged-frames;
+    }

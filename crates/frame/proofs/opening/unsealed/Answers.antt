@@ -19,9 +19,10 @@ returns-then-check-value-from-be-bytes c =
     let whole : bytes ≡ code ∷ rest = first-rest bytes 0 (omega (arith, ltb-false)) in
     let long : 2 ≤ length rest = omega (arith, ltb-false) in
     let value : c .check-value .result ≡ checkValue (code ∷ take (length rest - 2) rest) =
-      comes-to code (take (length rest - 2) rest) (c .preset-register .ensures) (c .take-byte .ensures) (c .take .ensures) (c .check-value .ensures) in
-    (omega (arith, ap length whole),
-     ap isSealed whole ∙ wrong code rest long (λ e. c .if-check-value-from-be-bytes .taken (value ∙ e ∙ sym (c .from-be-bytes .ensures))))
+    comes-to code (take (length rest - 2) rest) (c .preset-register .ensures) (c .take-byte .ensures) (c .take .ensures) (c .check-value .ensures) in (
+      omega (arith, ap length whole),
+      ap isSealed whole ∙ wrong code rest long (λ e. c .if-check-value-from-be-bytes .taken (value ∙ e ∙ sym (c .from-be-bytes .ensures))),
+    )
 
 pub returns : need.returns
 returns c =
@@ -31,10 +32,11 @@ returns c =
     let whole : bytes ≡ code ∷ rest = first-rest bytes 0 (omega (arith, ltb-false)) in
     let long : 2 ≤ length rest = omega (arith, ltb-false) in
     let value : c .check-value .result ≡ checkValue (code ∷ take (length rest - 2) rest) =
-      comes-to code (take (length rest - 2) rest) (c .preset-register .ensures) (c .take-byte .ensures) (c .take .ensures) (c .check-value .ensures) in
+    comes-to code (take (length rest - 2) rest) (c .preset-register .ensures) (c .take-byte .ensures) (c .take .ensures) (c .check-value .ensures) in
     let byte : (i : ℕ) → getD rest i 0 < 256 =
-      λ i. subst (λ (x : ℕ). x < 256) (sym (ap (λ xs. getD xs i 0) (take-rest bytes 1) ∙ getD-drop 1 bytes i 0)) (c .typed .bytes (1 + i) .fits) in
-    (omega (arith, ap length whole),
-     ap isSealed whole ∙ right code rest long (sym value ∙ c .if-check-value-from-be-bytes .left ∙ c .from-be-bytes .ensures) (byte (length rest - 2)) (byte (length rest - 1)),
-     refl,
-     sym (ap parametersOf whole ∙ parameters-are code rest long))
+    λ i. subst (λ (x : ℕ). x < 256) (sym (ap (λ xs. getD xs i 0) (take-rest bytes 1) ∙ getD-drop 1 bytes i 0)) (c .typed .bytes (1 + i) .fits) in (
+      omega (arith, ap length whole),
+      ap isSealed whole ∙ right code rest long (sym value ∙ c .if-check-value-from-be-bytes .left ∙ c .from-be-bytes .ensures) (byte (length rest - 2)) (byte (length rest - 1)),
+      refl,
+      sym (ap parametersOf whole ∙ parameters-are code rest long),
+    )

@@ -16,10 +16,11 @@ returns c =
     let at : ℕ = c .args .self .now .filled in
     let n : at + length ys - at ≡ length ys = omega arith in
     let rest : drop (at + length ys - at) (drop at xs) ≡ drop (at + length ys) xs = ap (λ (k : ℕ). drop k (drop at xs)) n ∙ drop-drop (length ys) at xs in
-    record
-    { room = sym (le-leb (at + length ys) (length xs) (omega arith))
-    ; refusal = tt
-    ; filled = refl
-    ; register = c .take .ensures
-    ; buffer = ap₂ (λ (p q : List ℕ). take at xs ++ (p ++ q)) (c .copy-from-slice .ensures .after) rest
-    ; lender = refl }
+    record {
+      room = sym (le-leb (at + length ys) (length xs) (omega arith));
+      refusal = tt;
+      filled = refl;
+      register = c .take .ensures;
+      buffer = ap₂ (λ (p q : List ℕ). take at xs ++ (p ++ q)) (c .copy-from-slice .ensures .after) rest;
+      lender = refl;
+    }
