@@ -1,7 +1,7 @@
 // The check value of frames and replies.
 ghost use mathlib.Core.Path.{_≡_};
 ghost use mathlib.Core.Bool.{cond};
-ghost use mathlib.Core.List.{[], _++_};
+ghost use mathlib.Core.List.{_++_};
 ghost use Prim.Native.Nat.{_-_};
 ghost use Rattle.std.specs.Iters.{folded};
 ghost use Rattle.crc.specs.Check.{bitTaken, byteTaken, register, checkValue, sent};
@@ -16,8 +16,14 @@ const POLYNOMIAL: u16 = 0x1021;
 // The register's highest place.
 const TOP: u16 = 0x8000;
 
+// What the register holds before the first bit.
+const PRESET: u16 = 0xffff;
+
+// A number is inverted by taking it from this one.
+const ONES: u16 = 0xffff;
+
 // The 16-bit register that a message goes through, bit by bit.
-#[derive(Clone, Copy, PartialEq, Eq, Debug)]
+#[derive(Clone, Copy)]
 pub struct Register {
     value: u16,
 }
@@ -25,60 +31,38 @@ pub struct Register {
 impl Register {
     // The register before any bit: all ones.
     pub fn preset() -> Register
-        ensures { λ r. ⌜ r .value ≡ register [] ⌝ }
+        ensures { λ r. ⌜ r .value ≡ 0xffff ⌝ }
     {
-        Register { value: 0xffff }
+        Register { value: PRESET }
     }
 
     // One more bit, for who takes a message off the air.
     pub fn take_bit(&mut self, bit: bool)
         ensures { λ _. ⌜ now (self .exit) .value ≡ bitTaken (now (self .entry) .value) (cond bit 1 0) ⌝ }
     {
-        let met = self.value ^ (u16::from(bit) * TOP);
-        self.value = if met < TOP {
-            met * 2
-        } else {
-            ((met - TOP) * 2) ^ POLYNOMIAL
-        };
+        self.value = after_bit(self.value, bit);
     }
 
     // One more byte, its highest bit first.
     pub fn take_byte(&mut self, byte: u8)
         ensures { λ _. ⌜ now (self .exit) .value ≡ byteTaken (now (self .entry) .value) byte ⌝ }
     {
-        let [high, low] = self.value.to_be_bytes();
-        self.value = (u16::from(low) * 256) ^ from_empty(high ^ byte);
+        self.value = after_byte(self.value, byte);
     }
 
     // Some more bytes.
     pub fn take(&mut self, bytes: &[u8])
         ensures { λ _. ⌜ now (self .exit) .value ≡ folded byteTaken (now (self .entry) .value) (now (bytes .entry)) ⌝ }
     {
-        for byte in bytes {
-            self.take_byte(*byte);
-        }
+        self.value = after_bytes(self.value, bytes);
     }
 
     // The check value of what went through: the register inverted.
     pub fn check_value(&self) -> u16
         ensures { λ r. ⌜ r ≡ 0xffff - now (self .entry) .value ⌝ }
     {
-        0xffff - self.value
+        ONES - self.value
     }
-
-    // What the register holds.
-    pub fn value(&self) -> u16
-        ensures { λ r. ⌜ r ≡ now (self .entry) .value ⌝ }
-    {
-        self.value
-    }
-}
-
-// The empty register after a byte, looked up.
-fn from_empty(byte: u8) -> u16
-    ensures { λ r. ⌜ r ≡ byteTaken 0 byte ⌝ }
-{
-    FROM_EMPTY[usize::from(byte)]
 }
 
 // The check value of a message: the register over it, inverted. The message with it, high byte first, always leaves
@@ -87,7 +71,41 @@ pub fn check_value(message: &[u8]) -> u16
     ensures value { λ r. ⌜ r ≡ checkValue (now (message .entry)) ⌝ }
     ensures residue { λ r. ⌜ register (now (message .entry) ++ sent r) ≡ 0x1d0f ⌝ }
 {
-    let mut register = Register::preset();
-    register.take(message);
-    register.check_value()
+    ONES - after_bytes(PRESET, message)
+}
+
+fn after_bytes(register: u16, bytes: &[u8]) -> u16
+    ensures { λ r. ⌜ r ≡ folded byteTaken register (now (bytes .entry)) ⌝ }
+{
+    let mut value = register;
+    for byte in bytes {
+        value = after_byte(value, *byte);
+    }
+    value
+}
+
+// The eight bits at once: the byte meets the register's upper half, and the lower half moves up whole.
+fn after_byte(register: u16, byte: u8) -> u16
+    ensures { λ r. ⌜ r ≡ byteTaken register byte ⌝ }
+{
+    let [high, low] = register.to_be_bytes();
+    (u16::from(low) * 256) ^ from_empty(high ^ byte)
+}
+
+fn after_bit(register: u16, bit: bool) -> u16
+    ensures { λ r. ⌜ r ≡ bitTaken register (cond bit 1 0) ⌝ }
+{
+    let met = register ^ (u16::from(bit) * TOP);
+    if met < TOP {
+        met * 2
+    } else {
+        ((met - TOP) * 2) ^ POLYNOMIAL
+    }
+}
+
+// The empty register after a byte, looked up.
+fn from_empty(byte: u8) -> u16
+    ensures { λ r. ⌜ r ≡ byteTaken 0 byte ⌝ }
+{
+    FROM_EMPTY[usize::from(byte)]
 }

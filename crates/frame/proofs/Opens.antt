@@ -1,6 +1,6 @@
 -- What opening comes to, case by case. Assumes nothing.
 use mathlib.Core.Path.{_≡_, refl, sym, ap, _∙_}
-use mathlib.Core.List.{List, [], _∷_}
+use mathlib.Core.List.{List, [], _∷_, map}
 use mathlib.Core.Bool.{Bool, true, false, cond}
 use Prim.Native.Nat.{ℕ, _+_, _≤_, _<_}
 use native.Mathlib.Omega.{arith}
@@ -14,10 +14,11 @@ use Rattle.frame.specs.declared.command.Command.{Command}
 use Rattle.frame.specs.declared.command.Entry.{Entry}
 use Rattle.frame.specs.declared.refusal.Refusal.{Refusal}
 use Rattle.frame.specs.declared.refusal.Refusal.the-variants.{Stub, Check, Code, Length, Buffer}
-use Rattle.frame.specs.Commands.{codeOf, layout, lengthOf, named, entryOf}
+use Rattle.frame.specs.Commands.{codeOf, layout, lengthOf, named, commands, entryOf, firstEntry}
 use Rattle.frame.specs.Openings.{Opening, refused, opened, opening, byName, isSealed, parametersOf, refusedAs}
 use Rattle.frame.specs.Parts.{placed}
 use Rattle.frame.specs.Refusals.{numberOf}
+use Rattle.frame.proofs.Lookups.{told}
 
 module _ (frame : List ℕ) where
   pub stub : length frame < 3 → opening frame ≡ refused 1
@@ -52,14 +53,22 @@ module _ (frame : List ℕ) where
   refused-as Length h = absurd h
   refused-as Buffer h = absurd h
 
--- What a look-up in the table tells of the command.
-pub found-none : (o : Option Command) → None ≡ mapped entryOf o → o ≡ None
-found-none None e = refl
-found-none (Some c) e = cc
+none-mapped : (o : Option Command) → None ≡ mapped entryOf o → o ≡ None
+none-mapped None e = refl
+none-mapped (Some c) e = cc
 
-pub found-some : (o : Option Command) (e : Entry) → Some e ≡ mapped entryOf o → (o ≡ Some (e .command)) × (e ≡ entryOf (e .command))
-found-some None e p = absurd (let z : _≡_ {A = ℕ} 0 1 = cc in omega arith)
-found-some (Some c) e p =
+some-mapped : (o : Option Command) (e : Entry) → Some e ≡ mapped entryOf o → (o ≡ Some (e .command)) × (e ≡ entryOf (e .command))
+some-mapped None e p = absurd (let z : _≡_ {A = ℕ} 0 1 = cc in omega arith)
+some-mapped (Some c) e p =
     let q : e ≡ entryOf c = cc in
     let r : e .command ≡ c = ap (λ (x : Entry). x .command) q in
     (ap Some (sym r), q ∙ ap entryOf (sym r))
+
+-- What a look-up in the table tells of the command.
+pub found-none : (code : ℕ) → None ≡ firstEntry code (map entryOf commands) → named code ≡ None
+unfolding named
+found-none code e = none-mapped (named code) (e ∙ told code commands)
+
+pub found-some : (code : ℕ) (e : Entry) → Some e ≡ firstEntry code (map entryOf commands) → (named code ≡ Some (e .command)) × (e ≡ entryOf (e .command))
+unfolding named
+found-some code e p = some-mapped (named code) e (p ∙ told code commands)

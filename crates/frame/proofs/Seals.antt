@@ -44,7 +44,7 @@ unfolding parametersOf front
 length-parameters frame h = simp (length-drop, length-take) (omega arith)
 
 -- The register, byte by byte, comes to the check value.
-pub comes-to : (code : ℕ) (message : List ℕ) {a b d v : ℕ} → a ≡ register [] → b ≡ byteTaken a code → d ≡ folded byteTaken b message
+pub comes-to : (code : ℕ) (message : List ℕ) {a b d v : ℕ} → a ≡ 0xffff → b ≡ byteTaken a code → d ≡ folded byteTaken b message
     → v ≡ 0xffff - d → v ≡ checkValue (code ∷ message)
 unfolding register checkValue
 comes-to x m p q r s =

@@ -1,7 +1,7 @@
 // The fourteen commands of the chip SL3ICS31, with their codes and the lengths of their frames.
 ghost use mathlib.Core.Path.{_≡_};
-ghost use Rattle.std.specs.Options.{mapped};
-ghost use Rattle.frame.specs.Commands.{entryOf, named, firstEntry};
+ghost use mathlib.Core.List.{map};
+ghost use Rattle.frame.specs.Commands.{commands, entryOf, firstEntry};
 
 #[derive(Clone, Copy, PartialEq, Eq, Debug)]
 pub enum Command {
@@ -135,7 +135,7 @@ pub const COMMANDS: [Entry; 14] = [
 
 // The entry of a code, if a command has it.
 pub fn find(code: u8) -> Option<Entry>
-    ensures { λ r. ⌜ r ≡ mapped entryOf (named code) ⌝ }
+    ensures { λ r. ⌜ r ≡ firstEntry code (map entryOf commands) ⌝ }
 {
     first_entry(code, &COMMANDS)
 }

@@ -1,10 +1,15 @@
 // Making a frame at the front of a lent buffer.
 ghost use mathlib.Core.Path.{_≡_};
-ghost use lib.ListN.{length, take};
+ghost use mathlib.Core.List.{_∷_, _++_};
+ghost use Prim.Native.Nat.{_+_, _≤_};
+ghost use lib.ListN.{length, take, drop};
+ghost use Rattle.std.specs.Results.{Cases};
 ghost use Rattle.std.specs.Vec.{made as whenMade};
+ghost use Rattle.std.specs.declared.result.Result.the-variants.{Ok};
+ghost use Rattle.crc.specs.Check.{sealed};
 ghost use Rattle.frame.specs.Cases.{Bare-frames};
-ghost use Rattle.frame.specs.Makings.{making, answering, leaving, OpensAs};
-ghost use Rattle.frame.specs.Refusals.{answerOf};
+ghost use Rattle.frame.specs.Makings.{making, made, unmade, answering, leaving, OpensAs};
+ghost use Rattle.frame.specs.Refusals.{answerOf, numberOf};
 use crate::command::find;
 use crate::refusal::Refusal;
 use crate::writer::Writer;
@@ -16,15 +21,34 @@ pub fn make(code: u8, parameters: &[u8], buffer: &mut [u8]) -> Result<usize, Ref
     ensures opens { λ r. ⌜ whenMade r (λ n. OpensAs code (now (parameters .entry)) (take n (now (buffer .exit)))) ⌝ }
     ensures bare { λ _. ⌜ Bare-frames ⌝ }
 {
+    allow(code, parameters, buffer.len())?;
+    lay(code, parameters, buffer)
+}
+
+// Whether a frame can be made, or why not.
+fn allow(code: u8, parameters: &[u8], room: usize) -> Result<(), Refusal>
+    ensures made { λ r. ⌜ Cases r (λ _. making code (now (parameters .entry)) room ≡ made (sealed (code ∷ now (parameters .entry)))) (λ e. making code (now (parameters .entry)) room ≡ unmade (numberOf e)) ⌝ }
+    ensures fits { λ r. ⌜ whenMade r (λ _. length (now (parameters .entry)) + 3 ≤ room) ⌝ }
+    ensures opens { λ r. ⌜ whenMade r (λ _. OpensAs code (now (parameters .entry)) (sealed (code ∷ now (parameters .entry)))) ⌝ }
+{
     let Some(entry) = find(code) else {
         return Err(Refusal::Code);
     };
     if parameters.len() != entry.length - 3 {
         return Err(Refusal::Length);
     }
-    if buffer.len() < entry.length {
+    if room < entry.length {
         return Err(Refusal::Buffer);
     }
+    Ok(())
+}
+
+// Writes a frame into a buffer that has room for it.
+fn lay(code: u8, parameters: &[u8], buffer: &mut [u8]) -> Result<usize, Refusal>
+    requires { ⌜ length (now parameters) + 3 ≤ length (now buffer) ⌝ }
+    ensures told { λ r. ⌜ r ≡ Ok (length (sealed (code ∷ now (parameters .entry)))) ⌝ }
+    ensures buffer { λ _. ⌜ now (buffer .exit) ≡ sealed (code ∷ now (parameters .entry)) ++ drop (length (sealed (code ∷ now (parameters .entry)))) (now (buffer .entry)) ⌝ }
+{
     let mut writer = Writer::new(buffer);
     writer.put(&[code])?;
     writer.put(parameters)?;

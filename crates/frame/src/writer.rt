@@ -1,14 +1,13 @@
 // Bytes put one behind another at the front of a lent buffer.
 ghost use mathlib.Core.Path.{_≡_};
 ghost use mathlib.Core.Bool.{cond};
-ghost use mathlib.Core.List.{[]};
 ghost use Prim.Native.Nat.{_+_, _-_};
 ghost use lib.ListN.{length};
 ghost use denote.Ref.{name};
 ghost use Rattle.std.specs.Iters.{folded};
 ghost use Rattle.std.specs.Results.{isOk};
 ghost use Rattle.std.specs.Vec.{refused};
-ghost use Rattle.crc.specs.Check.{register as registerOver, byteTaken, sent};
+ghost use Rattle.crc.specs.Check.{byteTaken, sent};
 ghost use Rattle.frame.specs.Cases.{Short-replies};
 ghost use Rattle.frame.specs.Writing.{hasRoom, laid};
 use crate::refusal::Refusal;
@@ -25,7 +24,7 @@ pub struct Writer<'a> {
 impl<'a> Writer<'a> {
     pub fn new(buffer: &'a mut [u8]) -> Writer<'a>
         ensures filled { λ r. ⌜ r .filled ≡ 0 ⌝ }
-        ensures register { λ r. ⌜ r .register .value ≡ registerOver [] ⌝ }
+        ensures register { λ r. ⌜ r .register .value ≡ 0xffff ⌝ }
         ensures buffer { λ r. ⌜ now (r .buffer) ≡ now (buffer .entry) ⌝ }
         ensures lender { λ r. ⌜ name (r .buffer) ≡ name (buffer .entry) ⌝ }
     {

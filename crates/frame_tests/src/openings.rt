@@ -82,11 +82,23 @@ fn parameters_of_write() -> Result<(), Fail> {
     check_eq(frame.code(), 0x1b)?;
     let request = frame.request();
     let spans = [
-        Some(Span { offset: 1, length: 8 }),
-        Some(Span { offset: 9, length: 1 }),
-        Some(Span { offset: 10, length: 1 }),
+        Some(Span {
+            offset: 1,
+            length: 8,
+        }),
+        Some(Span {
+            offset: 9,
+            length: 1,
+        }),
+        Some(Span {
+            offset: 10,
+            length: 1,
+        }),
         None,
-        Some(Span { offset: 11, length: 4 }),
+        Some(Span {
+            offset: 11,
+            length: 4,
+        }),
         None,
         None,
     ];

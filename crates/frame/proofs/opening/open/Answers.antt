@@ -35,7 +35,7 @@ pub returns-in-rest : need.returns-in-rest
 returns-in-rest c =
     let u = c .in-Continue-code .ensures tt in
     record {
-      seen = sym (no-code (c .args .bytes .now) (u .0) (u .1) (ap named (sym (u .2)) ∙ found-none (named (c .in-Continue-code .code)) (c .in-rest .ensures tt)));
+      seen = sym (no-code (c .args .bytes .now) (u .0) (u .1) (ap named (sym (u .2)) ∙ found-none (c .in-Continue-code .code) (c .in-rest .ensures tt)));
       bytes = tt;
       within = tt;
       remade = tt;
@@ -46,7 +46,7 @@ returns-in-rest c =
 pub returns-then-bytes-entry : need.returns-then-bytes-entry
 returns-then-bytes-entry c =
     let u = c .in-Continue-code .ensures tt in
-    let f = found-some (named (c .in-Continue-code .code)) (c .in-Some .entry) (c .in-Some .ensures tt) in
+    let f = found-some (c .in-Continue-code .code) (c .in-Some .entry) (c .in-Some .ensures tt) in
     record {
       seen = sym (bad-length (c .args .bytes .now) (u .0) (u .1) (c .in-Some .entry .command) (ap named (sym (u .2)) ∙ f .0)
           (λ l. c .if-bytes-entry .taken (l ∙ sym (ap (λ (e : Entry). e .length) (f .1)))));
@@ -60,7 +60,7 @@ returns-then-bytes-entry c =
 pub of-requires : need.of-requires
 of-requires c κs =
     let u = c .in-Continue-code .ensures tt in
-    let f = found-some (named (c .in-Continue-code .code)) (c .in-Some .entry) (c .in-Some .ensures tt) in
+    let f = found-some (c .in-Continue-code .code) (c .in-Some .entry) (c .in-Some .ensures tt) in
     let l : length (c .args .bytes .now) ≡ lengthOf (c .in-Some .entry .command) = c .if-bytes-entry .left ∙ ap (λ (e : Entry). e .length) (f .1) in
     let p : length (c .in-Continue-code .parameters .now) ≡ length (parametersOf (c .args .bytes .now)) = ap length (u .3) in
     omega (arith, length-parameters (c .args .bytes .now) (u .0))
@@ -68,7 +68,7 @@ of-requires c κs =
 pub returns : need.returns
 returns c =
     let u = c .in-Continue-code .ensures tt in
-    let f = found-some (named (c .in-Continue-code .code)) (c .in-Some .entry) (c .in-Some .ensures tt) in
+    let f = found-some (c .in-Continue-code .code) (c .in-Some .entry) (c .in-Some .ensures tt) in
     let k : Command = c .in-Some .entry .command in
     let l : length (c .args .bytes .now) ≡ lengthOf k = c .if-bytes-entry .left ∙ ap (λ (e : Entry). e .length) (f .1) in
     let frame : List ℕ = c .args .bytes .now in

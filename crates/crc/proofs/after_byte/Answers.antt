@@ -5,11 +5,11 @@ use lib.Bits.{bitXor}
 use lib.ListN.{getD}
 use Rattle.crc.specs.Check.{byteTaken}
 use Rattle.crc.proofs.Moves.{byte-taken}
-use Rattle.crc.proofs.Register.take_byte.Needs as need
+use Rattle.crc.proofs.after_byte.Needs as need
 
 pub returns : need.returns
 returns c =
-    let r : ℕ = c .args .self .now .value in
+    let r : ℕ = c .args .register in
     let h : ℕ = r / 256 % 256 in
     let l : ℕ = r % 256 in
     let x : ℕ = c .args .byte in
