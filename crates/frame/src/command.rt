@@ -22,7 +22,7 @@ pub enum Command {
 }
 
 // What stands behind the code in a frame.
-#[derive(Clone, Copy, PartialEq, Eq, Debug)]
+#[derive(Clone, Copy)]
 pub enum Parameter {
     // The serial number of the tag that is meant.
     Serial,
@@ -52,7 +52,7 @@ pub const PARAMETERS: [Parameter; 7] = [
 ];
 
 // A command, its code, and how many bytes its frame has, from the code to the check value.
-#[derive(Clone, Copy, PartialEq, Eq, Debug)]
+#[derive(Clone, Copy)]
 pub struct Entry {
     pub command: Command,
     pub code: u8,
