@@ -2,7 +2,7 @@
 use mathlib.Core.Path.{refl}
 use Rattle.crc.specs.Check.{moved, bitTaken, bits, byteTaken, register, checkValue, sent, sealed}
 use Rattle.frame.specs.Cases.{Bare-frames, Short-replies, Damaged-frames}
-use Rattle.frame.specs.Commands.{named, firstNamed}
+use Rattle.protocol.specs.Commands.{named, firstNamed}
 use Rattle.frame.specs.Makings.{making}
 use Rattle.frame.specs.Openings.{opening, isSealed, front, parametersOf}
 

@@ -7,8 +7,8 @@ use Rattle.std.specs.declared.option.Option.{Option}
 use Rattle.std.specs.declared.option.Option.the-variants.{Some, None}
 use Rattle.std.proofs.shelf.Tests.{lt-ltb, le-ltb, eq-eqb, ne-eqb, cond-true, cond-false}
 use Rattle.crc.specs.Check.{sealed}
-use Rattle.frame.specs.declared.command.Command.{Command}
-use Rattle.frame.specs.Commands.{lengthOf, named}
+use Rattle.protocol.specs.declared.command.Command.{Command}
+use Rattle.protocol.specs.Commands.{lengthOf, named}
 use Rattle.frame.specs.Makings.{Making, unmade, made, making, forCommand}
 
 module _ (code : ℕ) (parameters : List ℕ) (room : ℕ) where

@@ -10,15 +10,15 @@ use Rattle.std.specs.Options.{mapped}
 use Rattle.std.specs.declared.option.Option.{Option}
 use Rattle.std.specs.declared.option.Option.the-variants.{Some, None}
 use Rattle.std.proofs.shelf.Tests.{lt-ltb, le-ltb, eq-eqb, ne-eqb, cond-true, cond-false}
-use Rattle.frame.specs.declared.command.Command.{Command}
-use Rattle.frame.specs.declared.command.Entry.{Entry}
-use Rattle.frame.specs.declared.refusal.Refusal.{Refusal}
-use Rattle.frame.specs.declared.refusal.Refusal.the-variants.{Stub, Check, Code, Length, Buffer}
-use Rattle.frame.specs.Commands.{codeOf, layout, lengthOf, named, commands, entryOf, firstEntry}
+use Rattle.protocol.specs.declared.command.Command.{Command}
+use Rattle.protocol.specs.declared.command.Entry.{Entry}
+use Rattle.protocol.specs.declared.refusal.Refusal.{Refusal}
+use Rattle.protocol.specs.declared.refusal.Refusal.the-variants.{Stub, Check, Code, Length, Buffer}
+use Rattle.protocol.specs.Commands.{codeOf, layout, lengthOf, named, commands, entryOf, firstEntry}
 use Rattle.frame.specs.Openings.{Opening, refused, opened, opening, byName, isSealed, parametersOf, refusedAs}
 use Rattle.frame.specs.Parts.{placed}
-use Rattle.frame.specs.Refusals.{numberOf}
-use Rattle.frame.proofs.Lookups.{told}
+use Rattle.protocol.specs.Refusals.{numberOf}
+use Rattle.protocol.proofs.Lookups.{told}
 
 module _ (frame : List ℕ) where
   pub stub : length frame < 3 → opening frame ≡ refused 1

@@ -14,10 +14,10 @@ use Rattle.std.proofs.shelf.Tests.{eqb-true}
 use Rattle.std.proofs.shelf.Equals.{sameBytes-decides}
 use Rattle.std.proofs.shelf.Lists.{nil-from-length, take-append-drop, take-at, take-append-le, drop-append-le, drop-drop, drop-more, getD-take, length-drop, length-take, length-append}
 use Rattle.crc.specs.Check.{sent, checkValue, sealed}
-use Rattle.frame.specs.declared.command.Command.{Command}
-use Rattle.frame.specs.declared.command.Command.the-variants.{Select, UnselectNe, UnselectIdFlag, UnselectNoidFlag, Query, Scroll, Repeat, Reset, Read, Verify, Lock, Qlock, ReadFlexible, Write}
-use Rattle.frame.specs.declared.command.Parameter.{Parameter}
-use Rattle.frame.specs.Commands.{codeOf, named, firstNamed, commands, layout, lengthOf, sizeOf, sizes}
+use Rattle.protocol.specs.declared.command.Command.{Command}
+use Rattle.protocol.specs.declared.command.Command.the-variants.{Select, UnselectNe, UnselectIdFlag, UnselectNoidFlag, Query, Scroll, Repeat, Reset, Read, Verify, Lock, Qlock, ReadFlexible, Write}
+use Rattle.protocol.specs.declared.command.Parameter.{Parameter}
+use Rattle.protocol.specs.Commands.{codeOf, named, firstNamed, commands, layout, lengthOf, sizeOf, sizes}
 use Rattle.frame.specs.Makings.{making, made, OpensAs}
 use Rattle.frame.specs.Openings.{opened, opening, front, isSealed, parametersOf}
 use Rattle.frame.specs.Parts.{Part, placed, bytesIn, Within}

@@ -11,6 +11,10 @@ use Rattle.crc.specs.Check.{register, byteTaken}
 use Rattle.frame.specs.declared.writer.Writer.{Writer}
 use Rattle.frame.specs.Writing.{laid}
 
+-- What holds of a function's value at one place holds at an equal one.
+pub carried : {X Y : Type 0} (f : X → Y) {y : Y} {a b : X} → y ≡ f a → a ≡ b → y ≡ f b
+carried f p q = p ∙ ap f q
+
 folded-append : (r : ℕ) (xs ys : List ℕ) → folded byteTaken r (xs ++ ys) ≡ folded byteTaken (folded byteTaken r xs) ys
 folded-append r [] ys = refl
 folded-append r (x ∷ xs) ys = folded-append (byteTaken r x) xs ys

@@ -4,9 +4,9 @@ use mathlib.Core.Path.{_≡_}
 use Prim.Native.Nat.{ℕ}
 use Rattle.std.specs.shelf.Lists.{All}
 use Rattle.crc.specs.Check.{sealed}
-use Rattle.frame.specs.declared.command.Command.{Command}
-use Rattle.frame.specs.declared.command.Command.the-variants.{Query, Scroll, Repeat, Reset}
-use Rattle.frame.specs.Commands.{codeOf}
+use Rattle.protocol.specs.declared.command.Command.{Command}
+use Rattle.protocol.specs.declared.command.Command.the-variants.{Query, Scroll, Repeat, Reset}
+use Rattle.protocol.specs.Commands.{codeOf}
 use Rattle.frame.specs.Makings.{making, made}
 use Rattle.frame.specs.Openings.{refused, opened, opening}
 

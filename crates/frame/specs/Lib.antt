@@ -1,9 +1,6 @@
 pub mod Cases
-pub mod Commands
 pub mod Makings
-pub mod Names
 pub mod Openings
 pub mod Parts
-pub mod Refusals
 pub mod Requests
 pub mod Writing

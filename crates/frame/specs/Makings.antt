@@ -8,11 +8,11 @@ use lib.ListN.{length, drop}
 use Rattle.std.specs.declared.option.Option.{Option}
 use Rattle.std.specs.declared.option.Option.the-variants.{Some, None}
 use Rattle.crc.specs.Check.{sealed}
-use Rattle.frame.specs.declared.command.Command.{Command}
-use Rattle.frame.specs.Commands.{lengthOf, named}
+use Rattle.protocol.specs.declared.command.Command.{Command}
+use Rattle.protocol.specs.Commands.{lengthOf, named}
 use Rattle.frame.specs.Openings.{Opening, opened, opening}
 use Rattle.frame.specs.Parts.{Part, bytesIn}
-use Rattle.frame.specs.Refusals.{Answer, told, denied}
+use Rattle.protocol.specs.Refusals.{Answer, told, denied}
 
 pub data Making : Type 0 where
   -- by the refusal's number

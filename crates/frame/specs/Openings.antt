@@ -10,14 +10,14 @@ use Rattle.std.specs.declared.option.Option.{Option}
 use Rattle.std.specs.declared.option.Option.the-variants.{Some, None}
 use Rattle.std.specs.declared.result.Result.{Result}
 use Rattle.std.specs.declared.result.Result.the-variants.{Ok, Err}
-use Rattle.frame.specs.declared.command.Command.{Command}
+use Rattle.protocol.specs.declared.command.Command.{Command}
 use Rattle.frame.specs.declared.opening.Frame.{Frame}
-use Rattle.frame.specs.declared.refusal.Refusal.{Refusal}
-use Rattle.frame.specs.declared.refusal.Refusal.the-variants.{Stub, Check, Code, Length, Buffer}
+use Rattle.protocol.specs.declared.refusal.Refusal.{Refusal}
+use Rattle.protocol.specs.declared.refusal.Refusal.the-variants.{Stub, Check, Code, Length, Buffer}
 use Rattle.crc.specs.Check.{sealed}
-use Rattle.frame.specs.Commands.{codeOf, layout, lengthOf, named}
+use Rattle.protocol.specs.Commands.{codeOf, layout, lengthOf, named}
 use Rattle.frame.specs.Parts.{Part, placed}
-use Rattle.frame.specs.Refusals.{numberOf}
+use Rattle.protocol.specs.Refusals.{numberOf}
 use Rattle.frame.specs.Requests.{commandOf, partsOf}
 
 pub data Opening : Type 0 where

@@ -9,10 +9,10 @@ use Rattle.std.specs.Joined.{joined}
 use Rattle.std.specs.shelf.Lists.{All}
 use Rattle.std.specs.declared.option.Option.{Option}
 use Rattle.std.specs.declared.option.Option.the-variants.{Some, None}
-use Rattle.frame.specs.declared.command.Parameter.{Parameter}
-use Rattle.frame.specs.declared.command.Parameter.the-variants.{Serial, Address, Mask, Word, Data, Length, Ignored}
+use Rattle.protocol.specs.declared.command.Parameter.{Parameter}
+use Rattle.protocol.specs.declared.command.Parameter.the-variants.{Serial, Address, Mask, Word, Data, Length, Ignored}
 use Rattle.frame.specs.declared.request.Span.{Span}
-use Rattle.frame.specs.Commands.{sizeOf}
+use Rattle.protocol.specs.Commands.{sizeOf}
 
 -- A parameter in a frame: which one, how far from the frame's first byte, and its bytes.
 pub record Part : Type 0 where

@@ -1,9 +1,9 @@
 -- What a request of the code says: its command, and its parameters in their order. Assumes nothing.
 use mathlib.Core.List.{List, [], _∷_, _++_}
-use Rattle.frame.specs.declared.command.Command.the-variants as command
-use Rattle.frame.specs.declared.command.Command.{Command}
-use Rattle.frame.specs.declared.command.Parameter.{Parameter}
-use Rattle.frame.specs.declared.command.Parameter.the-variants.{Serial, Address, Mask, Word, Data, Length, Ignored}
+use Rattle.protocol.specs.declared.command.Command.the-variants as command
+use Rattle.protocol.specs.declared.command.Command.{Command}
+use Rattle.protocol.specs.declared.command.Parameter.{Parameter}
+use Rattle.protocol.specs.declared.command.Parameter.the-variants.{Serial, Address, Mask, Word, Data, Length, Ignored}
 use Rattle.frame.specs.declared.request.ByteAt.{ByteAt}
 use Rattle.frame.specs.declared.request.BytesAt.{BytesAt}
 use Rattle.frame.specs.declared.request.Comparison.{Comparison}

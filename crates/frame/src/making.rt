@@ -9,10 +9,10 @@ ghost use Rattle.std.specs.declared.result.Result.the-variants.{Ok};
 ghost use Rattle.crc.specs.Check.{sealed};
 ghost use Rattle.frame.specs.Cases.{Bare-frames};
 ghost use Rattle.frame.specs.Makings.{making, made, unmade, answering, leaving, OpensAs};
-ghost use Rattle.frame.specs.Refusals.{answerOf, numberOf};
-use crate::command::find;
-use crate::refusal::Refusal;
+ghost use Rattle.protocol.specs.Refusals.{answerOf, numberOf};
 use crate::writer::Writer;
+use protocol::command::find;
+use protocol::refusal::Refusal;
 
 // Makes the frame of a code with its parameters, and tells its length. It opens as that code with those parameters.
 pub fn make(code: u8, parameters: &[u8], buffer: &mut [u8]) -> Result<usize, Refusal>

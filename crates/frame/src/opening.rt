@@ -10,10 +10,10 @@ ghost use Rattle.frame.specs.Makings.{making, made};
 ghost use Rattle.frame.specs.Openings.{opening, seen, isSealed, parametersOf, refusedAs};
 ghost use Rattle.frame.specs.Parts.{bytesIn, Within};
 ghost use Rattle.frame.specs.Requests.{partsOf};
-use crate::command::find;
-use crate::refusal::Refusal;
 use crate::request::Request;
 use crc::Register;
+use protocol::command::find;
+use protocol::refusal::Refusal;
 
 // A frame that opened: the caller's bytes, their code and their request.
 #[derive(Clone, Copy)]

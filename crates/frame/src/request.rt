@@ -3,12 +3,12 @@ ghost use mathlib.Core.Path.{_≡_};
 ghost use mathlib.Core.List.{_∷_, []};
 ghost use Prim.Native.Nat.{_≤_};
 ghost use lib.ListN.{length, drop};
-ghost use Rattle.frame.specs.Commands.{layout, sizes};
+ghost use Rattle.protocol.specs.Commands.{layout, sizes};
 ghost use Rattle.frame.specs.Requests.{partsOf, commandOf, comparisonParts, targetParts, bytesAt};
 ghost use Rattle.frame.specs.Parts.{placed, spanOf};
-ghost use Rattle.frame.specs.declared.command.Parameter.the-variants.{Serial, Address, Mask, Word, Length, Data, Ignored};
-use crate::command::Command;
-use crate::command::Parameter;
+ghost use Rattle.protocol.specs.declared.command.Parameter.the-variants.{Serial, Address, Mask, Word, Length, Data, Ignored};
+use protocol::command::Command;
+use protocol::command::Parameter;
 
 // A parameter of one byte, and its offset in the frame.
 #[derive(Clone, Copy)]

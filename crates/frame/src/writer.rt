@@ -10,8 +10,8 @@ ghost use Rattle.std.specs.Vec.{refused};
 ghost use Rattle.crc.specs.Check.{byteTaken, sent};
 ghost use Rattle.frame.specs.Cases.{Short-replies};
 ghost use Rattle.frame.specs.Writing.{hasRoom, laid};
-use crate::refusal::Refusal;
 use crc::Register;
+use protocol::refusal::Refusal;
 
 // The buffer, how many of its bytes are filled, and the register over those that were put.
 #[derive(Drop)]

@@ -3,11 +3,11 @@
 ghost use Prim.Native.Nat.{_<_};
 ghost use Rattle.std.specs.Vec.{made};
 use crc::check_value;
-use frame::command::PARAMETERS;
 use frame::making::make;
-use frame::names::ParameterDisplay;
 use frame::opening::Frame;
 use frame::opening::open;
+use protocol::command::PARAMETERS;
+use protocol::names::ParameterDisplay;
 use std::alloc::Global;
 use std::error::AnyError;
 use std::fmt;

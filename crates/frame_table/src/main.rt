@@ -1,13 +1,13 @@
 // Prints the frame of each of the fourteen commands, for a sample serial number.
-use frame::command::COMMANDS;
-use frame::command::Command;
-use frame::command::Entry;
-use frame::command::PARAMETERS;
 use frame::making::make;
-use frame::names::CommandDisplay;
-use frame::names::ParameterDisplay;
 use frame::opening::Frame;
 use frame::opening::open;
+use protocol::command::COMMANDS;
+use protocol::command::Command;
+use protocol::command::Entry;
+use protocol::command::PARAMETERS;
+use protocol::names::CommandDisplay;
+use protocol::names::ParameterDisplay;
 use std::alloc::AllocError;
 use std::alloc::Global;
 use std::error::AnyError;

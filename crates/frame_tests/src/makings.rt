@@ -1,8 +1,8 @@
 // Frames that are made, and calls that are refused.
 use frame::making::make;
-use frame::refusal::Refusal;
-use frame::refusal::RefusalDebug;
-use frame::refusal::RefusalPartialEq;
+use protocol::refusal::Refusal;
+use protocol::refusal::RefusalDebug;
+use protocol::refusal::RefusalPartialEq;
 use std::test::*;
 
 #[test]

@@ -1,16 +1,16 @@
 // Frames that open, and bytes that do not.
-use frame::command::Command;
-use frame::command::CommandDebug;
-use frame::command::CommandPartialEq;
-use frame::command::PARAMETERS;
-use frame::command::Parameter;
 use frame::opening::open;
-use frame::refusal::Refusal;
-use frame::refusal::RefusalDebug;
-use frame::refusal::RefusalPartialEq;
 use frame::request::Span;
 use frame::request::SpanDebug;
 use frame::request::SpanPartialEq;
+use protocol::command::Command;
+use protocol::command::CommandDebug;
+use protocol::command::CommandPartialEq;
+use protocol::command::PARAMETERS;
+use protocol::command::Parameter;
+use protocol::refusal::Refusal;
+use protocol::refusal::RefusalDebug;
+use protocol::refusal::RefusalPartialEq;
 use std::test::*;
 
 const WRITE: [u8; 17] = [

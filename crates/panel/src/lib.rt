@@ -10,11 +10,11 @@ ghost use Rattle.frame.specs.Parts.{spanOf};
 ghost use Rattle.frame.specs.Requests.{partsOf};
 ghost use Rattle.panel.specs.Shown.{Small, offsetIn, lengthIn, shownOf, answering, leaving};
 use crc::check_value;
-use frame::command::Parameter;
 use frame::opening::Frame;
 use frame::opening::open;
-use frame::refusal::Refusal;
 use frame::request::Request;
+use protocol::command::Parameter;
+use protocol::refusal::Refusal;
 
 // How many bytes tell what a frame holds: its code, then offset and length of each of the seven parameters.
 const SHOWN: usize = 15;

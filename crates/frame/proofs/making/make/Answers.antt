@@ -5,7 +5,7 @@ use lib.ListN.{length, drop}
 use Rattle.std.proofs.shelf.Results.{err-from-errBy}
 use Rattle.crc.specs.Check.{sealed}
 use Rattle.frame.specs.Makings.{Making, answering, leaving}
-use Rattle.frame.specs.Refusals.{answerOf}
+use Rattle.protocol.specs.Refusals.{answerOf}
 use Rattle.frame.proofs.Limits.{bare-frames}
 use Rattle.frame.proofs.Trips.{opens-at}
 use Rattle.frame.proofs.making.make.Needs as need

@@ -4,9 +4,9 @@ use Prim.Native.Nat.{ℕ}
 use native.Mathlib.Omega.{arith}
 use lib.ListN.{length, getD}
 use Rattle.std.proofs.shelf.Results.{err-from-errBy}
-use Rattle.frame.specs.declared.command.Command.{Command}
-use Rattle.frame.specs.declared.command.Entry.{Entry}
-use Rattle.frame.specs.Commands.{codeOf, named, layout, lengthOf}
+use Rattle.protocol.specs.declared.command.Command.{Command}
+use Rattle.protocol.specs.declared.command.Entry.{Entry}
+use Rattle.protocol.specs.Commands.{codeOf, named, layout, lengthOf}
 use Rattle.frame.specs.Openings.{opened, parametersOf}
 use Rattle.frame.specs.Makings.{making}
 use Rattle.frame.specs.Parts.{Part, placed, bytesIn, Within}

@@ -4,7 +4,7 @@ use Prim.Native.Nat.{ℕ}
 use native.Mathlib.Omega.{arith}
 use Rattle.std.proofs.shelf.Lists.{take-all}
 use Rattle.frame.specs.Parts.{Part}
-use Rattle.frame.specs.declared.command.Parameter.the-variants.{Ignored}
+use Rattle.protocol.specs.declared.command.Parameter.the-variants.{Ignored}
 use Rattle.frame.proofs.request.BytesAt.ignored.Needs as need
 
 alone : List ℕ → List Part

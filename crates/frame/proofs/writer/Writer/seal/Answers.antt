@@ -7,6 +7,7 @@ use Rattle.std.specs.Iters.{folded}
 use Rattle.std.specs.Results.{isOk}
 use Rattle.crc.specs.Check.{byteTaken, sent}
 use Rattle.frame.specs.Writing.{hasRoom, laid}
+use Rattle.frame.proofs.Writes.{carried}
 use Rattle.frame.proofs.Limits.{short-replies}
 use Rattle.frame.proofs.writer.Writer.seal.Needs as need
 
@@ -14,13 +15,14 @@ pub returns : need.returns
 unfolding sent
 returns c =
     let w = c .args .self .now in
+    let ok = isOk (c .put .result) in
     let bytes : c .to-be-bytes .result ≡ sent (0xffff - w .register .value) = c .to-be-bytes .ensures ∙ ap sent (c .check-value-value .ensures) in
     record {
-      room = c .put .ensures .room ∙ ap (λ (xs : List ℕ). hasRoom w (length xs)) bytes;
+      room = carried (λ (xs : List ℕ). hasRoom w (length xs)) (c .put .ensures .room) bytes;
       refusal = c .put .ensures .refusal;
-      filled = c .put .ensures .filled ∙ ap (λ (xs : List ℕ). cond (isOk (c .put .result)) (w .filled + length xs) (w .filled)) bytes;
-      register = c .put .ensures .register ∙ ap (λ (xs : List ℕ). cond (isOk (c .put .result)) (folded byteTaken (w .register .value) xs) (w .register .value)) bytes;
-      buffer = c .put .ensures .buffer ∙ ap (λ (xs : List ℕ). cond (isOk (c .put .result)) (laid (w .buffer .now) (w .filled) xs) (w .buffer .now)) bytes;
+      filled = carried (λ (xs : List ℕ). cond ok (w .filled + length xs) (w .filled)) (c .put .ensures .filled) bytes;
+      register = carried (λ (xs : List ℕ). cond ok (folded byteTaken (w .register .value) xs) (w .register .value)) (c .put .ensures .register) bytes;
+      buffer = carried (λ (xs : List ℕ). cond ok (laid (w .buffer .now) (w .filled) xs) (w .buffer .now)) (c .put .ensures .buffer) bytes;
       lender = c .put .ensures .lender;
       replies = short-replies;
     }

@@ -1,7 +1,7 @@
 -- The longer names, which the search does not spell out.
 use mathlib.Core.Path.{sym, ap}
-use Rattle.frame.specs.Names.{commandName}
-use Rattle.frame.proofs.command.Command.name.Needs as need
+use Rattle.protocol.specs.Names.{commandName}
+use Rattle.protocol.proofs.command.Command.name.Needs as need
 
 pub returns-in-UnselectIdFlag : need.returns-in-UnselectIdFlag
 returns-in-UnselectIdFlag c = ap commandName (sym (c .in-UnselectIdFlag .is))

@@ -1,7 +1,7 @@
 // The names of commands and parameters, as the chip's users know them.
 ghost use mathlib.Core.Path.{_≡_};
 ghost use Rattle.std.specs.declared.option.Option.the-variants.{Some};
-ghost use Rattle.frame.specs.Names.{commandName, parameterName};
+ghost use Rattle.protocol.specs.Names.{commandName, parameterName};
 use crate::command::Command;
 use crate::command::Parameter;
 use std::fmt;

@@ -5,11 +5,11 @@ use Prim.Native.Nat.{ℕ, _+_}
 use lib.Dec.{eqb}
 use Rattle.std.specs.declared.option.Option.{Option}
 use Rattle.std.specs.declared.option.Option.the-variants.{Some, None}
-use Rattle.frame.specs.declared.command.Command.{Command}
-use Rattle.frame.specs.declared.command.Command.the-variants.{Select, UnselectNe, UnselectIdFlag, UnselectNoidFlag, Query, Scroll, Repeat, Reset, Read, Verify, Lock, Qlock, ReadFlexible, Write}
-use Rattle.frame.specs.declared.command.Parameter.{Parameter}
-use Rattle.frame.specs.declared.command.Parameter.the-variants.{Serial, Address, Mask, Word, Data, Length, Ignored}
-use Rattle.frame.specs.declared.command.Entry.{Entry}
+use Rattle.protocol.specs.declared.command.Command.{Command}
+use Rattle.protocol.specs.declared.command.Command.the-variants.{Select, UnselectNe, UnselectIdFlag, UnselectNoidFlag, Query, Scroll, Repeat, Reset, Read, Verify, Lock, Qlock, ReadFlexible, Write}
+use Rattle.protocol.specs.declared.command.Parameter.{Parameter}
+use Rattle.protocol.specs.declared.command.Parameter.the-variants.{Serial, Address, Mask, Word, Data, Length, Ignored}
+use Rattle.protocol.specs.declared.command.Entry.{Entry}
 
 abbrev pub codeOf : Command → ℕ
 codeOf Select = 0x00

@@ -1,7 +1,7 @@
 // The fourteen commands of the chip SL3ICS31, with their codes and the lengths of their frames.
 ghost use mathlib.Core.Path.{_≡_};
 ghost use mathlib.Core.List.{map};
-ghost use Rattle.frame.specs.Commands.{commands, entryOf, firstEntry};
+ghost use Rattle.protocol.specs.Commands.{commands, entryOf, firstEntry};
 
 #[derive(Clone, Copy, PartialEq, Eq, Debug)]
 pub enum Command {

@@ -1,7 +1,7 @@
 use mathlib.Core.Path.{_≡_}
 use lib.ListN.{drop}
-use Rattle.frame.specs.Commands.{firstEntry}
-use Rattle.frame.proofs.command.first_entry.Given as given
+use Rattle.protocol.specs.Commands.{firstEntry}
+use Rattle.protocol.proofs.command.first_entry.Given as given
 
 -- The answer lies in what is left.
 abbrev pub Inv-loop-entry : given.InvT-loop-entry

@@ -10,9 +10,9 @@ use Rattle.std.specs.declared.option.Option.{Option}
 use Rattle.std.specs.declared.option.Option.the-variants.{Some, None}
 use Rattle.std.proofs.shelf.Lists.{at-drop-more}
 use Rattle.std.proofs.shelf.Tests.{eq-eqb, ne-eqb, cond-true, cond-false}
-use Rattle.frame.specs.declared.command.Command.{Command}
-use Rattle.frame.specs.declared.command.Entry.{Entry}
-use Rattle.frame.specs.Commands.{codeOf, entryOf, firstNamed, firstEntry}
+use Rattle.protocol.specs.declared.command.Command.{Command}
+use Rattle.protocol.specs.declared.command.Entry.{Entry}
+use Rattle.protocol.specs.Commands.{codeOf, entryOf, firstNamed, firstEntry}
 
 module _ (code : ℕ) (es : List Entry) (i : ℕ) (d : Entry) (within : i < length es) where
   at-place : firstEntry code (drop i es) ≡ cond (eqb (getD es i d .code) code) (Some (getD es i d)) (firstEntry code (drop (i + 1) es))

@@ -1,6 +1,6 @@
 // Why a call is refused.
 ghost use mathlib.Core.Path.{_≡_};
-ghost use Rattle.frame.specs.Refusals.{numberOf};
+ghost use Rattle.protocol.specs.Refusals.{numberOf};
 
 // The refusals, each with its number.
 #[derive(Clone, Copy, PartialEq, Eq, Debug)]

@@ -2,8 +2,8 @@
 use Prim.Native.Nat.{ℕ}
 use Rattle.std.specs.declared.result.Result.{Result}
 use Rattle.std.specs.declared.result.Result.the-variants.{Ok, Err}
-use Rattle.frame.specs.declared.refusal.Refusal.{Refusal}
-use Rattle.frame.specs.declared.refusal.Refusal.the-variants.{Stub, Check, Code, Length, Buffer}
+use Rattle.protocol.specs.declared.refusal.Refusal.{Refusal}
+use Rattle.protocol.specs.declared.refusal.Refusal.the-variants.{Stub, Check, Code, Length, Buffer}
 
 abbrev pub numberOf : Refusal → ℕ
 numberOf Stub = 1

@@ -1,8 +1,8 @@
 use mathlib.Core.Path.{sym, ap, _∙_}
 use Rattle.std.proofs.shelf.Lists.{drop-all}
-use Rattle.frame.specs.Commands.{firstEntry}
-use Rattle.frame.proofs.Lookups.{hit, miss, none-left}
-use Rattle.frame.proofs.command.first_entry.Needs as need
+use Rattle.protocol.specs.Commands.{firstEntry}
+use Rattle.protocol.proofs.Lookups.{hit, miss, none-left}
+use Rattle.protocol.proofs.command.first_entry.Needs as need
 
 pub loop-entry-again : need.loop-entry-again
 loop-entry-again c =

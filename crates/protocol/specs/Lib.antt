@@ -1,0 +1,3 @@
+pub mod Commands
+pub mod Names
+pub mod Refusals
