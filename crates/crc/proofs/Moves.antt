@@ -2,19 +2,17 @@
 -- at once, and a message's own check value drives it to one fixed value.
 -- Assumes nothing.
 use mathlib.Core.Path.{_≡_, refl, sym, ap, ap₂, subst, _∙_}
-use mathlib.Core.List.{List, [], _∷_, _++_, append-assoc}
-use mathlib.Core.Bool.{Bool, true, false, cond}
-use mathlib.Core.Logic.{_⊎_, inl, inr, ⊎-elim}
+use mathlib.Core.List.{List, [], _∷_, _++_}
+use mathlib.Core.Logic.{⊎-elim}
 use Prim.Native.Nat.{ℕ, zero, suc, _+_, _-_, _*_, _/_, _%_, _^_, _≤_, _<_}
 use native.Mathlib.Omega.{arith}
 use native.Mathlib.Nat.{mul-assoc, mul-comm, add-mul, pow-suc, mul-lt-mul-of-pos-right, div-add-mod'}
 use lib.Pow.{pow-pos}
-use lib.Bits.{bitXor, differ, xor-block, xor-shifted, xor-lt, xor-assoc, xor-comm, xor-zero-r, xor-step, xor-self}
+use lib.Bits.{bitXor, differ, xor-block, xor-shifted, xor-lt, xor-assoc, xor-comm, xor-zero-r, xor-step}
 use lib.Dec.{ltb}
 use Rattle.std.proofs.shelf.Tests.{lt-ltb, le-ltb, cond-true, cond-false, cases-lt}
-use Rattle.crc.specs.Check.{moved, bitTaken, bits, byteTaken, register, checkValue, sent, sealed}
+use Rattle.crc.specs.Check.{moved, bitTaken, bits, byteTaken, sent}
 use Rattle.std.specs.Iters.{folded}
-use Rattle.std.proofs.shelf.Sums.{folded-push}
 
 xor-double : (a b : ℕ) → bitXor a b * 2 ≡ bitXor (a * 2) (b * 2)
 xor-double a b =
@@ -175,17 +173,13 @@ complement (suc k) r h =
     xor-step r (2 ^ suc k - 1 - r) ∙ ap₂ (λ (x y : ℕ). x * 2 + y) (ap (bitXor (r / 2)) half ∙ rest) (ap (differ (r % 2)) last ∙ differs (r % 2) (omega arith))
     ∙ (let e : (2 ^ k - 1) * 2 + 1 ≡ 2 ^ suc k - 1 = omega (arith, pow-pos k) in e)
 
-pub register-fits : (message : List ℕ) → register message < 0x10000
-unfolding register
-register-fits message = fits 0xffff message (omega arith)
-  where
-    fits : (r : ℕ) (xs : List ℕ) → r < 0x10000 → folded byteTaken r xs < 0x10000
-    fits r [] h = h
-    fits r (x ∷ xs) h = fits (byteTaken r x) xs (byteTaken-fits r x h)
+pub folded-fits : (r : ℕ) (message : List ℕ) → r < 0x10000 → folded byteTaken r message < 0x10000
+folded-fits r [] h = h
+folded-fits r (x ∷ xs) h = folded-fits (byteTaken r x) xs (byteTaken-fits r x h)
 
-pub register-push : (message : List ℕ) (x : ℕ) → register (message ++ x ∷ []) ≡ byteTaken (register message) x
-unfolding register
-register-push message x = folded-push byteTaken 0xffff message x
+pub folded-append : {X Y : Type 0} (f : Y → X → Y) (y : Y) (xs zs : List X) → folded f y (xs ++ zs) ≡ folded f (folded f y xs) zs
+folded-append f y [] zs = refl
+folded-append f y (x ∷ xs) zs = folded-append f (f y x) xs zs
 
 -- Two bytes meet the register at once.
 two-met : (r h l : ℕ) → r < 0x10000 → h < 256 → l < 256
@@ -206,12 +200,9 @@ residue-from r hr =
     ∙ ap (λ (q : ℕ). times 8 (times 8 (bitXor r q))) e
     ∙ ap (λ (q : ℕ). times 8 (times 8 q)) (complement 16 r hr)
 
--- A message and its own check value leave one fixed value in the register.
-pub residue : (message : List ℕ) → register (sealed message) ≡ 0x1d0f
-unfolding sealed sent checkValue
-residue message =
-    let h : ℕ = checkValue message / 256 % 256 in
-    let l : ℕ = checkValue message % 256 in
-    ap register (sym (append-assoc message (h ∷ []) (l ∷ [])))
-    ∙ register-push (message ++ h ∷ []) l ∙ ap (λ (r : ℕ). byteTaken r l) (register-push message h)
-    ∙ residue-from (register message) (register-fits message)
+-- A message, and the register that it leaves, inverted, lead to one fixed value.
+pub residue : (r : ℕ) (message : List ℕ) → r < 0x10000 → folded byteTaken r (message ++ sent (0xffff - folded byteTaken r message)) ≡ 0x1d0f
+unfolding sent
+residue r message h =
+    folded-append byteTaken r message (sent (0xffff - folded byteTaken r message))
+    ∙ residue-from (folded byteTaken r message) (folded-fits r message h)

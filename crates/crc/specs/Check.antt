@@ -1,8 +1,8 @@
 -- The check value: a 16-bit register, preset to FFFF, takes the bits of each byte, the highest first, with the
 -- polynomial 1021. What is sent is the register inverted, high byte first. Assumes nothing.
 use mathlib.Core.List.{List, [], _∷_, _++_}
-use mathlib.Core.Bool.{Bool, cond}
-use Prim.Native.Nat.{ℕ, _+_, _-_, _*_, _/_, _%_}
+use mathlib.Core.Bool.{cond}
+use Prim.Native.Nat.{ℕ, _-_, _*_, _/_, _%_}
 use lib.Bits.{bitXor}
 use lib.Dec.{ltb}
 use Rattle.std.specs.Iters.{folded}
@@ -24,11 +24,11 @@ unfoldable pub byteTaken : ℕ → ℕ → ℕ
 byteTaken r x = folded bitTaken r (bits x)
 
 -- The register over a message.
-unfoldable pub register : List ℕ → ℕ
+abbrev pub register : List ℕ → ℕ
 register message = folded byteTaken 0xffff message
 
 -- The check value of a message, as a number.
-unfoldable pub checkValue : List ℕ → ℕ
+abbrev pub checkValue : List ℕ → ℕ
 checkValue message = 0xffff - register message
 
 -- A number of two bytes as it is sent, high byte first.

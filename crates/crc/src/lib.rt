@@ -74,8 +74,10 @@ pub fn check_value(message: &[u8]) -> u16
     ONES - after_bytes(PRESET, message)
 }
 
+// The register after some bytes. They and the register that is then left, inverted, always lead to the same value.
 fn after_bytes(register: u16, bytes: &[u8]) -> u16
-    ensures { λ r. ⌜ r ≡ folded byteTaken register (now (bytes .entry)) ⌝ }
+    ensures value { λ r. ⌜ r ≡ folded byteTaken register (now (bytes .entry)) ⌝ }
+    ensures residue { λ r. ⌜ folded byteTaken register (now (bytes .entry) ++ sent (0xffff - r)) ≡ 0x1d0f ⌝ }
 {
     let mut value = register;
     for byte in bytes {

@@ -1,6 +1,6 @@
 -- What making comes to, case by case. Assumes nothing.
-use mathlib.Core.Path.{_≡_, refl, sym, ap, _∙_}
-use mathlib.Core.List.{List, [], _∷_}
+use mathlib.Core.Path.{_≡_, ap, _∙_}
+use mathlib.Core.List.{List, _∷_}
 use Prim.Native.Nat.{ℕ, _+_, _≤_, _<_}
 use lib.ListN.{length}
 use Rattle.std.specs.declared.option.Option.{Option}
@@ -9,7 +9,7 @@ use Rattle.std.proofs.shelf.Tests.{lt-ltb, le-ltb, eq-eqb, ne-eqb, cond-true, c
 use Rattle.crc.specs.Check.{sealed}
 use Rattle.protocol.specs.declared.command.Command.{Command}
 use Rattle.protocol.specs.Commands.{lengthOf, named}
-use Rattle.frame.specs.Makings.{Making, unmade, made, making, forCommand}
+use Rattle.frame.specs.Makings.{unmade, made, making, forCommand}
 
 module _ (code : ℕ) (parameters : List ℕ) (room : ℕ) where
   for-command : (o : Option Command) → named code ≡ o → making code parameters room ≡ forCommand o code parameters room

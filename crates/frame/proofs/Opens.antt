@@ -1,10 +1,9 @@
 -- What opening comes to, case by case. Assumes nothing.
 use mathlib.Core.Path.{_≡_, refl, sym, ap, _∙_}
-use mathlib.Core.List.{List, [], _∷_, map}
-use mathlib.Core.Bool.{Bool, true, false, cond}
-use Prim.Native.Nat.{ℕ, _+_, _≤_, _<_}
+use mathlib.Core.List.{List, map}
+use mathlib.Core.Bool.{true, false, cond}
+use Prim.Native.Nat.{ℕ, _≤_, _<_}
 use native.Mathlib.Omega.{arith}
-use lib.Dec.{eqb, ltb}
 use lib.ListN.{length, getD}
 use Rattle.std.specs.Options.{mapped}
 use Rattle.std.specs.declared.option.Option.{Option}
@@ -15,7 +14,7 @@ use Rattle.protocol.specs.declared.command.Entry.{Entry}
 use Rattle.protocol.specs.declared.refusal.Refusal.{Refusal}
 use Rattle.protocol.specs.declared.refusal.Refusal.the-variants.{Stub, Check, Code, Length, Buffer}
 use Rattle.protocol.specs.Commands.{codeOf, layout, lengthOf, named, commands, entryOf, firstEntry}
-use Rattle.frame.specs.Openings.{Opening, refused, opened, opening, byName, isSealed, parametersOf, refusedAs}
+use Rattle.frame.specs.Openings.{refused, opened, opening, byName, isSealed, parametersOf, refusedAs}
 use Rattle.frame.specs.Parts.{placed}
 use Rattle.protocol.specs.Refusals.{numberOf}
 use Rattle.protocol.proofs.Lookups.{told}

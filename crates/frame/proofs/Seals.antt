@@ -1,7 +1,7 @@
 -- A frame taken apart into code, parameters and check value. Assumes nothing.
-use mathlib.Core.Path.{_≡_, refl, sym, ap, subst, _∙_}
+use mathlib.Core.Path.{_≡_, sym, ap, _∙_}
 use mathlib.Core.List.{List, [], _∷_, _++_}
-use mathlib.Core.Bool.{Bool, true, false}
+use mathlib.Core.Bool.{true, false}
 use mathlib.Core.Logic.{⊎-elim}
 use Prim.Native.Nat.{ℕ, suc, _+_, _-_, _*_, _/_, _%_, _≤_, _<_}
 use native.Mathlib.Omega.{arith}
@@ -11,7 +11,7 @@ use Rattle.std.proofs.shelf.Lists.{append-cancel-left, take-append-drop, drop-m
 use Rattle.std.proofs.shelf.Tests.{cases-bool}
 use Rattle.std.proofs.shelf.Equals.{sameBytes-decides}
 use Rattle.std.specs.Iters.{folded}
-use Rattle.crc.specs.Check.{register, byteTaken, checkValue, sent, sealed}
+use Rattle.crc.specs.Check.{byteTaken, checkValue, sent, sealed}
 use Rattle.frame.specs.Openings.{front, isSealed, parametersOf}
 
 -- two bytes are a number's, or the number is not theirs
@@ -30,7 +30,6 @@ of-two v h l hv e =
     omega arith
 
 pub checkValue-fits : (message : List ℕ) → checkValue message < 0x10000
-unfolding checkValue
 checkValue-fits message = omega arith
 
 pub front-sealed : (message : List ℕ) → front (sealed message) ≡ message
@@ -46,7 +45,6 @@ length-parameters frame h = simp (length-drop, length-take) (omega arith)
 -- The register, byte by byte, comes to the check value.
 pub comes-to : (code : ℕ) (message : List ℕ) {a b d v : ℕ} → a ≡ 0xffff → b ≡ byteTaken a code → d ≡ folded byteTaken b message
     → v ≡ 0xffff - d → v ≡ checkValue (code ∷ message)
-unfolding register checkValue
 comes-to x m p q r s =
     s ∙ ap (λ (y : ℕ). 0xffff - y) (r ∙ ap (λ (y : ℕ). folded byteTaken y m) (q ∙ ap (λ (y : ℕ). byteTaken y x) p))
 

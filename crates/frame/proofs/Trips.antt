@@ -2,14 +2,11 @@
 use mathlib.Core.Path.{_≡_, refl, sym, ap, subst, _∙_}
 use mathlib.Core.List.{List, [], _∷_, _++_}
 use mathlib.Core.Bool.{Bool, true, false, cond}
-use Prim.Native.Nat.{ℕ, _+_, _-_, _≤_, _<_}
+use Prim.Native.Nat.{ℕ, _+_, _-_, _≤_}
 use native.Mathlib.Omega.{arith}
 use lib.Dec.{eqb, lit≤}
 use lib.ListN.{length, getD, take, drop}
-use Rattle.std.specs.Joined.{joined}
-use Rattle.std.specs.shelf.Lists.{All}
-use Rattle.std.specs.shelf.Text.{sameBytes}
-use Rattle.std.specs.declared.option.Option.the-variants.{Some, None}
+use Rattle.std.specs.declared.option.Option.the-variants.{Some}
 use Rattle.std.proofs.shelf.Tests.{eqb-true}
 use Rattle.std.proofs.shelf.Equals.{sameBytes-decides}
 use Rattle.std.proofs.shelf.Lists.{nil-from-length, take-append-drop, take-at, take-append-le, drop-append-le, drop-drop, drop-more, getD-take, length-drop, length-take, length-append}
@@ -19,8 +16,8 @@ use Rattle.protocol.specs.declared.command.Command.the-variants.{Select, Unsele
 use Rattle.protocol.specs.declared.command.Parameter.{Parameter}
 use Rattle.protocol.specs.Commands.{codeOf, named, firstNamed, commands, layout, lengthOf, sizeOf, sizes}
 use Rattle.frame.specs.Makings.{making, made, OpensAs}
-use Rattle.frame.specs.Openings.{opened, opening, front, isSealed, parametersOf}
-use Rattle.frame.specs.Parts.{Part, placed, bytesIn, Within}
+use Rattle.frame.specs.Openings.{opened, front, isSealed, parametersOf}
+use Rattle.frame.specs.Parts.{placed, bytesIn, Within}
 use Rattle.frame.proofs.Opens.{opens}
 use Rattle.frame.proofs.Makes.{makes}
 use Rattle.frame.proofs.Seals.{front-sealed, length-parameters}

@@ -1,5 +1,5 @@
 -- Making: which frame a code and its parameters have, and which refusal meets what has none. Assumes nothing.
-use mathlib.Core.List.{List, [], _∷_, _++_}
+use mathlib.Core.List.{List, _∷_, _++_}
 use mathlib.Core.Bool.{cond}
 use mathlib.Core.Path.{_≡_}
 use Prim.Native.Nat.{ℕ, _+_}
@@ -10,7 +10,7 @@ use Rattle.std.specs.declared.option.Option.the-variants.{Some, None}
 use Rattle.crc.specs.Check.{sealed}
 use Rattle.protocol.specs.declared.command.Command.{Command}
 use Rattle.protocol.specs.Commands.{lengthOf, named}
-use Rattle.frame.specs.Openings.{Opening, opened, opening}
+use Rattle.frame.specs.Openings.{opened, opening}
 use Rattle.frame.specs.Parts.{Part, bytesIn}
 use Rattle.protocol.specs.Refusals.{Answer, told, denied}
 

@@ -1,8 +1,7 @@
 // What a frame asks, with its parameters as parts of the frame's own bytes.
 ghost use mathlib.Core.Path.{_≡_};
 ghost use mathlib.Core.List.{_∷_, []};
-ghost use Prim.Native.Nat.{_≤_};
-ghost use lib.ListN.{length, drop};
+ghost use lib.ListN.{length};
 ghost use Rattle.protocol.specs.Commands.{layout, sizes};
 ghost use Rattle.frame.specs.Requests.{partsOf, commandOf, comparisonParts, targetParts, bytesAt};
 ghost use Rattle.frame.specs.Parts.{placed, spanOf};

@@ -8,7 +8,6 @@ use Rattle.std.specs.Joined.{joined}
 use Rattle.std.specs.shelf.Lists.{All}
 use Rattle.std.specs.declared.option.Option.{Option}
 use Rattle.std.specs.declared.option.Option.the-variants.{Some, None}
-use Rattle.protocol.specs.declared.command.Parameter.{Parameter}
 use Rattle.protocol.specs.declared.command.Parameter.the-variants.{Serial, Address, Mask, Word, Data, Length, Ignored}
 use Rattle.frame.specs.declared.request.Span.{Span}
 use Rattle.frame.specs.Openings.{Opening, refused, opened}

@@ -1,9 +1,8 @@
 use mathlib.Core.Path.{_≡_, ap}
-use Prim.Native.Nat.{ℕ, _≤_}
 use native.Mathlib.Omega.{arith}
 use lib.ListN.{length}
 use Rattle.protocol.specs.declared.command.Entry.{Entry}
-use Rattle.protocol.specs.Commands.{lengthOf, named}
+use Rattle.protocol.specs.Commands.{lengthOf}
 use Rattle.frame.proofs.Makes.{no-code, bad-length, no-room, makes}
 use Rattle.frame.proofs.Opens.{found-none, found-some}
 use Rattle.frame.proofs.Trips.{opens-back}

@@ -4,12 +4,12 @@ use Prim.Native.Nat.{ℕ, _-_}
 use borrow.Author.Needs.{needs}
 use lib.ListN.{length, drop}
 use Rattle.std.specs.declared.result.Result.the-variants.{Ok}
-use Rattle.crc.specs.Check.{register, checkValue, sent, sealed}
+use Rattle.crc.specs.Check.{register, sent, sealed}
 use Rattle.frame.proofs.Writes.{Holds, holds-more}
 use Rattle.frame.proofs.making.lay.Needs as need
 
 pub returns : need.returns
-unfolding register checkValue sealed sent
+unfolding sealed sent
 returns c =
     let b : List ℕ = c .args .buffer .now in
     let ps : List ℕ = c .args .parameters .now in
