@@ -1,7 +1,7 @@
 // Bytes put one behind another at the front of a lent buffer.
 ghost use mathlib.Core.Path.{_≡_};
 ghost use mathlib.Core.Bool.{cond};
-ghost use Prim.Native.Nat.{_+_, _-_};
+ghost use Prim.Native.Nat.{_+_, _-_, _≤_};
 ghost use lib.ListN.{length};
 ghost use denote.Ref.{name};
 ghost use Rattle.std.specs.Iters.{folded};
@@ -49,9 +49,8 @@ impl<'a> Writer<'a> {
         if room < start || room - start < bytes.len() {
             return Err(Refusal::Buffer);
         }
-        let end = start + bytes.len();
-        self.buffer[start..end].copy_from_slice(bytes);
-        self.filled = end;
+        overlay(self.buffer, start, bytes);
+        self.filled = start + bytes.len();
         self.register.take(bytes);
         Ok(())
     }
@@ -75,4 +74,12 @@ impl<'a> Writer<'a> {
     {
         self.filled
     }
+}
+
+// Lays bytes over a buffer that is long enough, from a place on.
+fn overlay(buffer: &mut [u8], start: usize, bytes: &[u8])
+    requires { ⌜ start + length (now bytes) ≤ length (now buffer) ⌝ }
+    ensures { λ _. ⌜ now (buffer .exit) ≡ laid (now (buffer .entry)) start (now (bytes .entry)) ⌝ }
+{
+    buffer[start..start + bytes.len()].copy_from_slice(bytes);
 }
