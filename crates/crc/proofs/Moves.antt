@@ -202,7 +202,6 @@ residue-from r hr =
 
 -- A message, and the register that it leaves, inverted, lead to one fixed value.
 pub residue : (r : ℕ) (message : List ℕ) → r < 0x10000 → folded byteTaken r (message ++ sent (0xffff - folded byteTaken r message)) ≡ 0x1d0f
-unfolding sent
 residue r message h =
     folded-append byteTaken r message (sent (0xffff - folded byteTaken r message))
     ∙ residue-from (folded byteTaken r message) (folded-fits r message h)

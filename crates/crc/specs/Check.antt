@@ -32,7 +32,7 @@ abbrev pub checkValue : List ℕ → ℕ
 checkValue message = 0xffff - register message
 
 -- A number of two bytes as it is sent, high byte first.
-unfoldable pub sent : ℕ → List ℕ
+abbrev pub sent : ℕ → List ℕ
 sent v = v / 256 % 256 ∷ v % 256 ∷ []
 
 -- A message with its check value behind it: what a reader sends and what a tag replies.

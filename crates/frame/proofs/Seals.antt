@@ -16,14 +16,12 @@ use Rattle.frame.specs.Openings.{front, isSealed, parametersOf}
 
 -- two bytes are a number's, or the number is not theirs
 two-bytes : (v h l : ℕ) → v ≡ h * 256 + l → h < 256 → l < 256 → sent v ≡ h ∷ l ∷ []
-unfolding sent
 two-bytes v h l e hh hl =
     let a : v / 256 % 256 ≡ h = omega arith in
     let b : v % 256 ≡ l = omega arith in
     ap (λ (x : ℕ). x ∷ v % 256 ∷ []) a ∙ ap (λ (x : ℕ). h ∷ x ∷ []) b
 
 of-two : (v h l : ℕ) → v < 0x10000 → sent v ≡ h ∷ l ∷ [] → v ≡ h * 256 + l
-unfolding sent
 of-two v h l hv e =
     let a : v / 256 % 256 ≡ h = ap (λ (xs : List ℕ). getD xs 0 0) e in
     let b : v % 256 ≡ l = ap (λ (xs : List ℕ). getD xs 1 0) e in
@@ -33,7 +31,7 @@ pub checkValue-fits : (message : List ℕ) → checkValue message < 0x10000
 checkValue-fits message = omega arith
 
 pub front-sealed : (message : List ℕ) → front (sealed message) ≡ message
-unfolding front sealed sent
+unfolding front sealed
 front-sealed message =
     let v : List ℕ = sent (checkValue message) in
     take-at message v (length (message ++ v) - 2) (let e : length (message ++ v) ≡ length message + 2 = length-append message v in omega arith)

@@ -44,7 +44,7 @@ within-placed frame behind offset (p ∷ ps) bytes l e short =
     )
 
 sealed-length : (message : List ℕ) → length (sealed message) ≡ length message + 2
-unfolding sealed sent
+unfolding sealed
 sealed-length message = length-append message (sent (checkValue message))
 
 is-sealed : (message : List ℕ) → isSealed (sealed message) ≡ true

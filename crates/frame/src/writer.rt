@@ -1,15 +1,13 @@
 // Bytes put one behind another at the front of a lent buffer.
 ghost use mathlib.Core.Path.{_≡_};
-ghost use mathlib.Core.Bool.{cond};
 ghost use Prim.Native.Nat.{_+_, _-_, _≤_};
 ghost use lib.ListN.{length};
 ghost use denote.Ref.{name};
-ghost use Rattle.std.specs.Iters.{folded};
 ghost use Rattle.std.specs.Results.{isOk};
 ghost use Rattle.std.specs.Vec.{refused};
-ghost use Rattle.crc.specs.Check.{byteTaken, sent};
+ghost use Rattle.crc.specs.Check.{sent};
 ghost use Rattle.frame.specs.Cases.{Short-replies};
-ghost use Rattle.frame.specs.Writing.{hasRoom, laid};
+ghost use Rattle.frame.specs.Writing.{Put, laid};
 use crc::Register;
 use protocol::refusal::Refusal;
 
@@ -37,11 +35,8 @@ impl<'a> Writer<'a> {
 
     // Puts some bytes behind those that are there, or none of them where they do not all fit.
     pub fn put(&mut self, bytes: &[u8]) -> Result<(), Refusal>
-        ensures room { λ r. ⌜ isOk r ≡ hasRoom (now (self .entry)) (length (now (bytes .entry))) ⌝ }
+        ensures put { λ r. ⌜ Put (now (bytes .entry)) (now (self .entry)) (now (self .exit)) (isOk r) ⌝ }
         ensures refusal { λ r. ⌜ refused r (λ e. e ≡ Refusal.Buffer) ⌝ }
-        ensures filled { λ r. ⌜ now (self .exit) .filled ≡ cond (isOk r) (now (self .entry) .filled + length (now (bytes .entry))) (now (self .entry) .filled) ⌝ }
-        ensures register { λ r. ⌜ now (self .exit) .register .value ≡ cond (isOk r) (folded byteTaken (now (self .entry) .register .value) (now (bytes .entry))) (now (self .entry) .register .value) ⌝ }
-        ensures buffer { λ r. ⌜ now (now (self .exit) .buffer) ≡ cond (isOk r) (laid (now (now (self .entry) .buffer)) (now (self .entry) .filled) (now (bytes .entry))) (now (now (self .entry) .buffer)) ⌝ }
         ensures lender { λ _. ⌜ name (now (self .exit) .buffer) ≡ name (now (self .entry) .buffer) ⌝ }
     {
         let start = self.filled;
@@ -57,11 +52,8 @@ impl<'a> Writer<'a> {
 
     // Puts the check value of all that was put behind it, or nothing where it does not fit.
     pub fn seal(&mut self) -> Result<(), Refusal>
-        ensures room { λ r. ⌜ isOk r ≡ hasRoom (now (self .entry)) 2 ⌝ }
+        ensures put { λ r. ⌜ Put (sent (0xffff - now (self .entry) .register .value)) (now (self .entry)) (now (self .exit)) (isOk r) ⌝ }
         ensures refusal { λ r. ⌜ refused r (λ e. e ≡ Refusal.Buffer) ⌝ }
-        ensures filled { λ r. ⌜ now (self .exit) .filled ≡ cond (isOk r) (now (self .entry) .filled + 2) (now (self .entry) .filled) ⌝ }
-        ensures register { λ r. ⌜ now (self .exit) .register .value ≡ cond (isOk r) (folded byteTaken (now (self .entry) .register .value) (sent (0xffff - now (self .entry) .register .value))) (now (self .entry) .register .value) ⌝ }
-        ensures buffer { λ r. ⌜ now (now (self .exit) .buffer) ≡ cond (isOk r) (laid (now (now (self .entry) .buffer)) (now (self .entry) .filled) (sent (0xffff - now (self .entry) .register .value))) (now (now (self .entry) .buffer)) ⌝ }
         ensures lender { λ _. ⌜ name (now (self .exit) .buffer) ≡ name (now (self .entry) .buffer) ⌝ }
         ensures replies { λ _. ⌜ Short-replies ⌝ }
     {
