@@ -1,4 +1,10 @@
 // Prints the frame of each of the fourteen commands, for a sample serial number.
+ghost use mathlib.Core.Path.{_≡_};
+ghost use Prim.Native.Nat.{_+_};
+ghost use lib.ListN.{length};
+ghost use Rattle.std.specs.Of.Vec.{vec-len};
+ghost use Rattle.std.specs.Vec.{made};
+ghost use Rattle.protocol.specs.Commands.{layout, sizes};
 use frame::making::make;
 use frame::opening::Frame;
 use frame::opening::open;
@@ -6,7 +12,6 @@ use protocol::command::COMMANDS;
 use protocol::command::Command;
 use protocol::command::Entry;
 use protocol::command::PARAMETERS;
-use protocol::names::CommandDisplay;
 use protocol::names::ParameterDisplay;
 use std::alloc::AllocError;
 use std::alloc::Global;
@@ -14,6 +19,9 @@ use std::error::AnyError;
 use std::fmt;
 
 const SERIAL: [u8; 8] = [0xef, 0x04, 0x02, 0x00, 0x00, 0x00, 0x00, 0x01];
+
+// All tags whose memory begins with EF 04.
+const COMPARISON: [u8; 10] = [0x00, 0xc0, 0xef, 0x04, 0x00, 0x00, 0x00, 0x00, 0x00, 0x00];
 
 // A frame without parameters.
 const BARE: usize = 3;
@@ -54,29 +62,25 @@ impl fmt::Display for Row<'_> as RowDisplay {
 }
 
 // Parameters for a command, as a reader might send them.
-fn sample(heap: Global, command: Command) -> Result<Vec<u8>, AllocError> {
-    let mut bytes = Vec::new(heap);
+fn sample(heap: Global, command: Command) -> Result<Vec<u8>, AllocError>
+    ensures { λ r. ⌜ made r (λ bytes. vec-len bytes ≡ sizes (layout command)) ⌝ }
+{
     match command {
-        Command::Select | Command::UnselectNe => {
-            bytes.extend_from_slice(&[0x00, 0xc0, 0xef, 0x04, 0x00, 0x00, 0x00, 0x00, 0x00, 0x00])?;
-        }
-        Command::UnselectIdFlag | Command::UnselectNoidFlag => {
-            bytes.extend_from_slice(&[0x01, 0x01])?;
-        }
-        Command::Query | Command::Scroll | Command::Repeat | Command::Reset => {}
-        Command::Read | Command::Verify | Command::Lock | Command::Qlock => {
-            bytes.extend_from_slice(&SERIAL)?;
-            bytes.push(0x08)?;
-        }
-        Command::ReadFlexible => {
-            bytes.extend_from_slice(&SERIAL)?;
-            bytes.extend_from_slice(&[0x08, 0x0f])?;
-        }
-        Command::Write => {
-            bytes.extend_from_slice(&SERIAL)?;
-            bytes.extend_from_slice(&[0x08, 0xf0, 0x11, 0x22, 0x33, 0x44])?;
-        }
+        Command::Select | Command::UnselectNe => Vec::from_slice(heap, &COMPARISON),
+        Command::UnselectIdFlag | Command::UnselectNoidFlag => Vec::from_slice(heap, &[0x01, 0x01]),
+        Command::Query | Command::Scroll | Command::Repeat | Command::Reset => Ok(Vec::new(heap)),
+        Command::Read | Command::Verify | Command::Lock | Command::Qlock => to_tag(heap, &[0x08]),
+        Command::ReadFlexible => to_tag(heap, &[0x08, 0x0f]),
+        Command::Write => to_tag(heap, &[0x08, 0xf0, 0x11, 0x22, 0x33, 0x44]),
     }
+}
+
+// The sample serial number, and what stands behind it.
+fn to_tag(heap: Global, rest: &[u8]) -> Result<Vec<u8>, AllocError>
+    ensures { λ r. ⌜ made r (λ bytes. vec-len bytes ≡ 8 + length (now (rest .entry))) ⌝ }
+{
+    let mut bytes = Vec::from_slice(heap, &SERIAL)?;
+    bytes.extend_from_slice(rest)?;
     Ok(bytes)
 }
 
