@@ -11,12 +11,9 @@ use Rattle.std.specs.declared.option.Option.the-variants.{Some, None}
 use Rattle.std.proofs.shelf.Tests.{lt-ltb, le-ltb, eq-eqb, ne-eqb, cond-true, cond-false}
 use Rattle.protocol.specs.declared.command.Command.{Command}
 use Rattle.protocol.specs.declared.command.Entry.{Entry}
-use Rattle.protocol.specs.declared.refusal.Refusal.{Refusal}
-use Rattle.protocol.specs.declared.refusal.Refusal.the-variants.{Stub, Check, Code, Length, Buffer}
 use Rattle.protocol.specs.Commands.{codeOf, layout, lengthOf, named, commands, entryOf, firstEntry}
-use Rattle.frame.specs.Openings.{refused, opened, opening, byName, isSealed, parametersOf, refusedAs}
+use Rattle.frame.specs.Openings.{refused, opened, opening, byName, isSealed, parametersOf}
 use Rattle.frame.specs.Parts.{placed}
-use Rattle.protocol.specs.Refusals.{numberOf}
 use Rattle.protocol.proofs.Lookups.{told}
 
 module _ (frame : List ℕ) where
@@ -44,13 +41,6 @@ module _ (frame : List ℕ) where
     pub opens : (c : Command) → named (getD frame 0 0) ≡ Some c → length frame ≡ lengthOf c
         → opening frame ≡ opened (codeOf c) c (placed 1 (layout c) (parametersOf frame))
     opens c e l = by-name (Some c) e ∙ cond-true _ _ _ (eq-eqb (length frame) (lengthOf c) l)
-
-  pub refused-as : (e : Refusal) → refusedAs e frame → refused (numberOf e) ≡ opening frame
-  refused-as Stub h = sym (stub h)
-  refused-as Check h = sym (bad-check (h .0) (h .1))
-  refused-as Code h = absurd h
-  refused-as Length h = absurd h
-  refused-as Buffer h = absurd h
 
 none-mapped : (o : Option Command) → None ≡ mapped entryOf o → o ≡ None
 none-mapped None e = refl

@@ -1,8 +1,7 @@
 -- Opening: what a frame says, and which refusal meets what is no frame. Assumes nothing.
 use mathlib.Core.List.{List}
-use mathlib.Core.Bool.{Bool, false, cond}
-use mathlib.Core.Path.{_≡_}
-use Prim.Native.Nat.{ℕ, _-_, _≤_, _<_}
+use mathlib.Core.Bool.{Bool, cond}
+use Prim.Native.Nat.{ℕ, _-_}
 use lib.Dec.{eqb, ltb}
 use lib.ListN.{length, getD, take, drop}
 use Rattle.std.specs.shelf.Text.{sameBytes}
@@ -13,7 +12,6 @@ use Rattle.std.specs.declared.result.Result.the-variants.{Ok, Err}
 use Rattle.protocol.specs.declared.command.Command.{Command}
 use Rattle.frame.specs.declared.opening.Frame.{Frame}
 use Rattle.protocol.specs.declared.refusal.Refusal.{Refusal}
-use Rattle.protocol.specs.declared.refusal.Refusal.the-variants.{Stub, Check, Code, Length, Buffer}
 use Rattle.crc.specs.Check.{sealed}
 use Rattle.protocol.specs.Commands.{codeOf, layout, lengthOf, named}
 use Rattle.frame.specs.Parts.{Part, placed}
@@ -52,11 +50,3 @@ opening frame =
 abbrev pub seen : Result Frame Refusal → Opening
 seen (Ok f) = opened (f .code) (commandOf (f .request)) (partsOf (f .request))
 seen (Err e) = refused (numberOf e)
-
--- The refusals of what has no code or a wrong check value.
-abbrev pub refusedAs : Refusal → List ℕ → Type 0
-refusedAs Stub bytes = length bytes < 3
-refusedAs Check bytes = (3 ≤ length bytes) × (isSealed bytes ≡ false)
-refusedAs Code bytes = ⊥
-refusedAs Length bytes = ⊥
-refusedAs Buffer bytes = ⊥

@@ -3,13 +3,13 @@ ghost use mathlib.Core.Path.{_≡_};
 ghost use mathlib.Core.Bool.{true};
 ghost use Prim.Native.Nat.{_≤_};
 ghost use lib.ListN.{length, getD};
-ghost use Rattle.std.specs.Results.{Cases};
-ghost use Rattle.std.specs.Vec.{made as whenMade};
+ghost use Rattle.std.specs.Vec.{made as whenMade, refused as whenRefused};
 ghost use Rattle.frame.specs.Cases.{Damaged-frames};
 ghost use Rattle.frame.specs.Makings.{making, made};
-ghost use Rattle.frame.specs.Openings.{opening, seen, isSealed, parametersOf, refusedAs};
+ghost use Rattle.frame.specs.Openings.{refused, opening, seen, isSealed, parametersOf};
 ghost use Rattle.frame.specs.Parts.{bytesIn, Within};
 ghost use Rattle.frame.specs.Requests.{partsOf};
+ghost use Rattle.protocol.specs.Refusals.{numberOf};
 use crate::request::Request;
 use crc::Register;
 use protocol::command::find;
@@ -34,17 +34,7 @@ pub fn open(bytes: &[u8]) -> Result<Frame<'_>, Refusal>
     ensures damaged { λ _. ⌜ Damaged-frames ⌝ }
 {
     let (code, parameters) = unsealed(bytes)?;
-    let Some(entry) = find(code) else {
-        return Err(Refusal::Code);
-    };
-    if bytes.len() != entry.length {
-        return Err(Refusal::Length);
-    }
-    Ok(Frame {
-        bytes,
-        code: entry.code,
-        request: Request::of(entry.command, parameters),
-    })
+    framed(bytes, code, parameters)
 }
 
 impl<'a> Frame<'a> {
@@ -72,7 +62,12 @@ impl<'a> Frame<'a> {
 
 // The code and the parameters of a frame whose check value is right.
 fn unsealed(bytes: &[u8]) -> Result<(u8, &[u8]), Refusal>
-    ensures { λ r. ⌜ Cases r (λ p. (3 ≤ length (now (bytes .entry))) × (isSealed (now (bytes .entry)) ≡ true) × (p .0 ≡ getD (now (bytes .entry)) 0 0) × (now (p .1) ≡ parametersOf (now (bytes .entry)))) (λ e. refusedAs e (now (bytes .entry))) ⌝ }
+    ensures long { λ r. ⌜ whenMade r (λ _. 3 ≤ length (now (bytes .entry))) ⌝ }
+    ensures right { λ r. ⌜ whenMade r (λ _. isSealed (now (bytes .entry)) ≡ true) ⌝ }
+    ensures code { λ r. ⌜ whenMade r (λ p. p .0 ≡ getD (now (bytes .entry)) 0 0) ⌝ }
+    ensures parameters { λ r. ⌜ whenMade r (λ p. now (p .1) ≡ parametersOf (now (bytes .entry))) ⌝ }
+    ensures refusal { λ r. ⌜ whenRefused r (λ e. opening (now (bytes .entry)) ≡ refused (numberOf e)) ⌝ }
+    ensures damaged { λ _. ⌜ Damaged-frames ⌝ }
 {
     let [code, rest @ ..] = bytes else {
         return Err(Refusal::Stub);
@@ -87,4 +82,29 @@ fn unsealed(bytes: &[u8]) -> Result<(u8, &[u8]), Refusal>
         return Err(Refusal::Check);
     }
     Ok((*code, parameters))
+}
+
+// The frame of such bytes, by the table: or no command has the code, or none of that length.
+fn framed<'a>(bytes: &'a [u8], code: u8, parameters: &'a [u8]) -> Result<Frame<'a>, Refusal>
+    requires long { ⌜ 3 ≤ length (now bytes) ⌝ }
+    requires right { ⌜ isSealed (now bytes) ≡ true ⌝ }
+    requires code { ⌜ code ≡ getD (now bytes) 0 0 ⌝ }
+    requires parameters { ⌜ now parameters ≡ parametersOf (now bytes) ⌝ }
+    ensures seen { λ r. ⌜ seen r ≡ opening (now (bytes .entry)) ⌝ }
+    ensures bytes { λ r. ⌜ whenMade r (λ f. now (f .bytes) ≡ now (bytes .entry)) ⌝ }
+    ensures within { λ r. ⌜ whenMade r (λ f. Within (now (bytes .entry)) (partsOf (f .request))) ⌝ }
+    ensures remade { λ r. ⌜ whenMade r (λ f. making (f .code) (bytesIn (partsOf (f .request))) (length (now (bytes .entry))) ≡ made (now (bytes .entry))) ⌝ }
+    ensures longest { λ r. ⌜ whenMade r (λ _. length (now (bytes .entry)) ≤ 17) ⌝ }
+{
+    let Some(entry) = find(code) else {
+        return Err(Refusal::Code);
+    };
+    if bytes.len() != entry.length {
+        return Err(Refusal::Length);
+    }
+    Ok(Frame {
+        bytes,
+        code: entry.code,
+        request: Request::of(entry.command, parameters),
+    })
 }
