@@ -1,11 +1,10 @@
 // Making a frame at the front of a lent buffer.
 ghost use mathlib.Core.Path.{_≡_};
-ghost use mathlib.Core.List.{_∷_, _++_};
+ghost use mathlib.Core.List.{_∷_};
 ghost use Prim.Native.Nat.{_+_, _≤_};
-ghost use lib.ListN.{length, take, drop};
+ghost use lib.ListN.{length, take};
 ghost use Rattle.std.specs.Results.{Cases};
 ghost use Rattle.std.specs.Vec.{made as whenMade};
-ghost use Rattle.std.specs.declared.result.Result.the-variants.{Ok};
 ghost use Rattle.crc.specs.Check.{sealed};
 ghost use Rattle.frame.specs.Cases.{Bare-frames};
 ghost use Rattle.frame.specs.Makings.{making, made, unmade, answering, leaving, OpensAs};
@@ -30,6 +29,7 @@ fn allow(code: u8, parameters: &[u8], room: usize) -> Result<(), Refusal>
     ensures made { λ r. ⌜ Cases r (λ _. making code (now (parameters .entry)) room ≡ made (sealed (code ∷ now (parameters .entry)))) (λ e. making code (now (parameters .entry)) room ≡ unmade (numberOf e)) ⌝ }
     ensures fits { λ r. ⌜ whenMade r (λ _. length (now (parameters .entry)) + 3 ≤ room) ⌝ }
     ensures opens { λ r. ⌜ whenMade r (λ _. OpensAs code (now (parameters .entry)) (sealed (code ∷ now (parameters .entry)))) ⌝ }
+    ensures bare { λ _. ⌜ Bare-frames ⌝ }
 {
     let Some(entry) = find(code) else {
         return Err(Refusal::Code);
@@ -45,9 +45,12 @@ fn allow(code: u8, parameters: &[u8], room: usize) -> Result<(), Refusal>
 
 // Writes a frame into a buffer that has room for it.
 fn lay(code: u8, parameters: &[u8], buffer: &mut [u8]) -> Result<usize, Refusal>
-    requires { ⌜ length (now parameters) + 3 ≤ length (now buffer) ⌝ }
-    ensures told { λ r. ⌜ r ≡ Ok (length (sealed (code ∷ now (parameters .entry)))) ⌝ }
-    ensures buffer { λ _. ⌜ now (buffer .exit) ≡ sealed (code ∷ now (parameters .entry)) ++ drop (length (sealed (code ∷ now (parameters .entry)))) (now (buffer .entry)) ⌝ }
+    requires fits { ⌜ length (now parameters) + 3 ≤ length (now buffer) ⌝ }
+    requires made { ⌜ making code (now parameters) (length (now buffer)) ≡ made (sealed (code ∷ now parameters)) ⌝ }
+    requires opens { ⌜ OpensAs code (now parameters) (sealed (code ∷ now parameters)) ⌝ }
+    ensures answer { λ r. ⌜ answerOf r ≡ answering (making code (now (parameters .entry)) (length (now (buffer .entry)))) ⌝ }
+    ensures buffer { λ _. ⌜ now (buffer .exit) ≡ leaving (making code (now (parameters .entry)) (length (now (buffer .entry)))) (now (buffer .entry)) ⌝ }
+    ensures opens { λ r. ⌜ whenMade r (λ n. OpensAs code (now (parameters .entry)) (take n (now (buffer .exit)))) ⌝ }
 {
     let mut writer = Writer::new(buffer);
     writer.put(&[code])?;

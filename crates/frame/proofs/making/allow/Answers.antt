@@ -3,6 +3,7 @@ use native.Mathlib.Omega.{arith}
 use lib.ListN.{length}
 use Rattle.protocol.specs.declared.command.Entry.{Entry}
 use Rattle.protocol.specs.Commands.{lengthOf}
+use Rattle.frame.proofs.Limits.{bare-frames}
 use Rattle.frame.proofs.Makes.{no-code, bad-length, no-room, makes}
 use Rattle.frame.proofs.Opens.{found-none, found-some}
 use Rattle.frame.proofs.Trips.{opens-back}
@@ -19,6 +20,7 @@ returns-in-rest c =
       made = no-code (c .args .code) (c .args .parameters .now) (c .args .room) (found-none (c .args .code) (c .in-rest .ensures tt));
       fits = tt;
       opens = tt;
+      bare = bare-frames;
     }
 
 pub returns-then-parameters-entry : need.returns-then-parameters-entry
@@ -30,6 +32,7 @@ returns-then-parameters-entry c =
           (λ h. c .if-parameters-entry .taken (omega arith));
       fits = tt;
       opens = tt;
+      bare = bare-frames;
     }
 
 pub returns-then-room-entry : need.returns-then-room-entry
@@ -40,6 +43,7 @@ returns-then-room-entry c =
       made = no-room (c .args .code) (c .args .parameters .now) (c .args .room) (c .in-Some .entry .command) (f .0) (omega arith) (omega arith);
       fits = tt;
       opens = tt;
+      bare = bare-frames;
     }
 
 pub returns : need.returns
@@ -50,4 +54,5 @@ returns c =
       made = makes (c .args .code) (c .args .parameters .now) (c .args .room) (c .in-Some .entry .command) (f .0) (omega arith) (omega arith);
       fits = omega arith;
       opens = opens-back (c .args .code) (c .args .parameters .now) (c .in-Some .entry .command) (f .0) (omega arith);
+      bare = bare-frames;
     }
