@@ -1,20 +1,18 @@
 -- Making and opening undo each other. Assumes nothing.
 use mathlib.Core.Path.{_≡_, refl, sym, ap, subst, _∙_}
 use mathlib.Core.List.{List, [], _∷_, _++_}
-use mathlib.Core.Bool.{Bool, true, false, cond}
+use mathlib.Core.Bool.{true}
 use Prim.Native.Nat.{ℕ, _+_, _-_, _≤_}
 use native.Mathlib.Omega.{arith}
-use lib.Dec.{eqb, lit≤}
 use lib.ListN.{length, getD, take, drop}
 use Rattle.std.specs.declared.option.Option.the-variants.{Some}
-use Rattle.std.proofs.shelf.Tests.{eqb-true}
 use Rattle.std.proofs.shelf.Equals.{sameBytes-decides}
 use Rattle.std.proofs.shelf.Lists.{nil-from-length, take-append-drop, take-at, take-append-le, drop-append-le, drop-drop, drop-more, getD-take, length-drop, length-take, length-append}
 use Rattle.crc.specs.Check.{sent, checkValue, sealed}
 use Rattle.protocol.specs.declared.command.Command.{Command}
-use Rattle.protocol.specs.declared.command.Command.the-variants.{Select, UnselectNe, UnselectIdFlag, UnselectNoidFlag, Query, Scroll, Repeat, Reset, Read, Verify, Lock, Qlock, ReadFlexible, Write}
 use Rattle.protocol.specs.declared.command.Parameter.{Parameter}
-use Rattle.protocol.specs.Commands.{codeOf, named, firstNamed, commands, layout, lengthOf, sizeOf, sizes}
+use Rattle.protocol.proofs.Lookups.{named-code}
+use Rattle.protocol.specs.Commands.{codeOf, named, layout, lengthOf, sizeOf, sizes}
 use Rattle.frame.specs.Makings.{making, made, OpensAs}
 use Rattle.frame.specs.Openings.{opened, front, isSealed, parametersOf}
 use Rattle.frame.specs.Parts.{placed, bytesIn, Within}
@@ -55,21 +53,6 @@ is-sealed message =
 first-byte : (code : ℕ) (parameters : List ℕ) → getD (sealed (code ∷ parameters)) 0 0 ≡ code
 unfolding sealed
 first-byte code parameters = refl
-
-first-code : (code : ℕ) (c d : Command) (ds : List Command) → (firstNamed code ds ≡ Some c → codeOf c ≡ code) → (b : Bool) → eqb (codeOf d) code ≡ b
-    → cond b (Some d) (firstNamed code ds) ≡ Some c → codeOf c ≡ code
-first-code code c d ds later true t q = let same : d ≡ c = cc in ap codeOf (sym same) ∙ eqb-true (codeOf d) code t
-first-code code c d ds later false t q = later q
-
-firstNamed-code : (code : ℕ) (c : Command) (cs : List Command) → firstNamed code cs ≡ Some c → codeOf c ≡ code
-unfolding firstNamed
-firstNamed-code code c [] e = absurd (let z : _≡_ {A = ℕ} 0 1 = cc in omega arith)
-firstNamed-code code c (d ∷ ds) e = first-code code c d ds (firstNamed-code code c ds) (eqb (codeOf d) code) refl e
-
--- A command that a code names has that code.
-pub named-code : (code : ℕ) (c : Command) → named code ≡ Some c → codeOf c ≡ code
-unfolding named
-named-code code c e = firstNamed-code code c commands e
 
 -- What is made opens as what it was made of.
 pub opens-back : (code : ℕ) (parameters : List ℕ) (c : Command) → named code ≡ Some c → length parameters + 3 ≡ lengthOf c
@@ -130,20 +113,3 @@ module _ (frame : List ℕ) (h : 3 ≤ length frame) (s : isSealed frame ≡ tru
         ap (λ (xs : List ℕ). making (codeOf c) xs (length frame)) (bytesIn-placed 1 (layout c) (parametersOf frame) parameters-fit)
         ∙ makes (codeOf c) (parametersOf frame) (length frame) c (ap named k ∙ e) (omega (arith, parameters-fit)) (omega arith)
         ∙ ap made (ap (λ (n : ℕ). sealed (n ∷ parametersOf frame)) k ∙ ap sealed (sym front-apart) ∙ sym is-front-sealed)
-
--- No frame is longer than WRITE's.
-pub longest : (c : Command) → lengthOf c ≤ 17
-longest Select = lit≤ tt
-longest UnselectNe = lit≤ tt
-longest UnselectIdFlag = lit≤ tt
-longest UnselectNoidFlag = lit≤ tt
-longest Query = lit≤ tt
-longest Scroll = lit≤ tt
-longest Repeat = lit≤ tt
-longest Reset = lit≤ tt
-longest Read = lit≤ tt
-longest Verify = lit≤ tt
-longest Lock = lit≤ tt
-longest Qlock = lit≤ tt
-longest ReadFlexible = lit≤ tt
-longest Write = lit≤ tt

@@ -5,7 +5,7 @@ use Rattle.protocol.specs.declared.command.Entry.{Entry}
 use Rattle.protocol.specs.Commands.{lengthOf}
 use Rattle.frame.proofs.Limits.{bare-frames}
 use Rattle.frame.proofs.Makes.{no-code, bad-length, no-room, makes}
-use Rattle.frame.proofs.Opens.{found-none, found-some}
+use Rattle.protocol.proofs.Lookups.{found-none, found-some}
 use Rattle.frame.proofs.Trips.{opens-back}
 use Rattle.frame.proofs.making.allow.Needs as need
 

@@ -10,10 +10,11 @@ use Rattle.frame.specs.Openings.{opened, parametersOf}
 use Rattle.frame.specs.Makings.{making}
 use Rattle.frame.specs.Parts.{Part, placed, bytesIn, Within}
 use Rattle.std.specs.declared.option.Option.the-variants.{Some}
-use Rattle.frame.proofs.Trips.{within, remade, longest}
+use Rattle.frame.proofs.Trips.{within, remade}
+use Rattle.protocol.proofs.Lookups.{found-none, found-some, longest}
 use Rattle.frame.specs.Requests.{commandOf, partsOf}
 use Rattle.frame.proofs.Seals.{length-parameters}
-use Rattle.frame.proofs.Opens.{no-code, bad-length, opens, found-none, found-some}
+use Rattle.frame.proofs.Opens.{no-code, bad-length, opens}
 use Rattle.frame.proofs.opening.framed.Needs as need
 
 pub returns-in-rest : need.returns-in-rest
