@@ -50,3 +50,8 @@ abbrev pub spanOf : Parameter → List Part → Option Span
 spanOf p [] = None
 spanOf p (x ∷ xs) =
     cond (eqb (placeOf (x .parameter)) (placeOf p)) (Some (record { offset = x .offset; length = length (x .bytes) })) (spanOf p xs)
+
+-- A parameter's bytes, none if it is not there.
+abbrev pub bytesOf : Parameter → List Part → List ℕ
+bytesOf p [] = []
+bytesOf p (x ∷ xs) = cond (eqb (placeOf (x .parameter)) (placeOf p)) (x .bytes) (bytesOf p xs)

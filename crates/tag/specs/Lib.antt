@@ -1,0 +1,4 @@
+pub mod Masks
+pub mod Records
+pub mod Replies
+pub mod Steps

@@ -1,0 +1,5 @@
+// One tag of the chip SL3ICS31: its record, its step on any frame, and gaps.
+mod masks;
+pub mod record;
+pub mod reply;
+pub mod step;
