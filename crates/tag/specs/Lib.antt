@@ -1,4 +1,6 @@
+pub mod Gaps
 pub mod Masks
+pub mod Names
 pub mod Records
 pub mod Replies
 pub mod Steps

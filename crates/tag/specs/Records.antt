@@ -1,14 +1,14 @@
 -- The record of a tag: what its parts say, and the record with one part changed. Assumes nothing.
-use mathlib.Core.List.{List, _++_, [], _∷_, map}
-use mathlib.Core.Bool.{Bool, true, false, cond}
-use Prim.Native.Nat.{ℕ, _+_}
-use lib.Dec.{leb}
+use mathlib.Core.List.{List, _∷_, map}
+use mathlib.Core.Bool.{Bool, true, false}
+use Prim.Native.Nat.{ℕ}
+use lib.Dec.{ltb}
 use lib.ListN.{getD, take, replicate}
 use Rattle.std.specs.Iters.{counting}
 use Rattle.std.specs.declared.option.Option.{Option}
-use Rattle.std.specs.declared.option.Option.the-variants.{Some, None}
+use Rattle.std.specs.declared.option.Option.the-variants.{None}
 use Rattle.tag.specs.declared.record.State.{State}
-use Rattle.tag.specs.declared.record.State.the-variants.{Ready, Singulation, Inventoried}
+use Rattle.tag.specs.declared.record.State.the-variants.{Ready}
 use Rattle.tag.specs.declared.record.WriteMark.{WriteMark}
 use Rattle.tag.specs.declared.record.WriteMark.the-variants.{Clear, Fading, Fresh}
 use Rattle.tag.specs.declared.record.Tag.{Tag}
@@ -28,10 +28,21 @@ bytesFrom memory a n = map (λ i. getD memory i 0) (counting a n)
 abbrev pub serialOf : Tag → List ℕ
 serialOf t = take 8 (t .memory)
 
-abbrev pub stepsLeft : WriteMark → ℕ
-stepsLeft Clear = 0
-stepsLeft Fading = 1
-stepsLeft Fresh = 2
+-- The write mark as a number.
+abbrev pub markNumber : WriteMark → ℕ
+markNumber Clear = 0
+markNumber Fading = 1
+markNumber Fresh = 2
+
+-- The mark falls by one if it can.
+abbrev pub fallen : WriteMark → WriteMark
+fallen Fresh = Fading
+fallen Fading = Clear
+fallen Clear = Clear
+
+-- WRITE_OK: the mark, once fallen, is at least 1.
+abbrev pub writeOk : WriteMark → Bool
+writeOk m = ltb 0 (markNumber m)
 
 -- A new tag of 56 bytes: only the first two are locked, and all else is clear.
 abbrev pub newTag : List ℕ → Tag

@@ -15,28 +15,15 @@ use Rattle.frame.specs.Openings.{Opening, refused, opened}
 use Rattle.frame.specs.Parts.{Part, bytesOf}
 use Rattle.tag.specs.declared.record.State.{State}
 use Rattle.tag.specs.declared.record.State.the-variants.{Ready, Singulation, Inventoried}
-use Rattle.tag.specs.declared.record.WriteMark.{WriteMark}
-use Rattle.tag.specs.declared.record.WriteMark.the-variants.{Clear, Fading, Fresh}
+use Rattle.tag.specs.declared.record.WriteMark.the-variants.{Clear, Fresh}
 use Rattle.tag.specs.declared.record.Tag.{Tag}
 use Rattle.tag.specs.Masks.{matches, stored}
-use Rattle.tag.specs.Records.{lockedAt, bytesFrom, serialOf, inState, flagging, counting-to, marking, permitting, remembering, locking}
+use Rattle.tag.specs.Records.{fallen, writeOk, lockedAt, bytesFrom, serialOf, inState, flagging, counting-to, marking, permitting, remembering, locking}
 use Rattle.tag.specs.Replies.{sounding}
-
--- The mark falls by one if it can.
-abbrev pub fallen : WriteMark → WriteMark
-fallen Fresh = Fading
-fallen Fading = Clear
-fallen Clear = Clear
 
 -- What every frame does first to a tag. The old permission serves this frame only.
 abbrev pub met : Tag → Tag
 met t = permitting None (marking (fallen (t .mark)) t)
-
--- WRITE_OK: the mark, once fallen, is at least 1.
-abbrev pub writeOk : WriteMark → Bool
-writeOk Clear = false
-writeOk Fading = true
-writeOk Fresh = true
 
 -- The first for a tag in SINGULATION, the second for any other.
 abbrev pub ifSingulated : {X : Type 0} → State → X → X → X
@@ -56,9 +43,13 @@ isChosen Ready matching = matching
 isChosen Singulation matching = true
 isChosen Inventoried matching = false
 
--- The three UNSELECTs: a tag leaves silently, or stays with its counter at 0 and replies its serial number.
+-- A tag that is selected, from the first turn on.
+abbrev pub joined : Tag → Tag
+joined t = inState Singulation (counting-to 0 t)
+
+-- The three UNSELECTs: a tag leaves silently, or stays and replies its serial number.
 abbrev pub unselected : Bool → Tag → Tag
-unselected leaves t = cond leaves (inState Ready t) (counting-to 0 t)
+unselected leaves t = cond leaves (inState Ready t) (joined t)
 
 abbrev pub staying : Bool → Tag → Option (List ℕ)
 staying leaves t = cond leaves None (Some (serialOf t))
@@ -109,7 +100,7 @@ ifMeant parts t x y = cond (sameBytes (serialOf t) (bytesOf Serial parts)) x y
 
 -- What a command does to a tag that its frame has met, given what was permitted before.
 abbrev pub obeyed : Command → List Part → Bool → Option ℕ → Tag → Tag
-obeyed Select parts coin permitted t = cond (isChosen (t .state) (isMatching parts t)) (inState Singulation (counting-to 0 t)) t
+obeyed Select parts coin permitted t = cond (isChosen (t .state) (isMatching parts t)) (joined t) t
 obeyed UnselectNe parts coin permitted t = ifSingulated (t .state) (unselected (not (isMatching parts t)) t) t
 obeyed UnselectIdFlag parts coin permitted t = ifSingulated (t .state) (unselected (t .identified) t) t
 obeyed UnselectNoidFlag parts coin permitted t = ifSingulated (t .state) (unselected (not (t .identified)) t) t

@@ -6,23 +6,33 @@ ghost use Prim.Native.Nat.{_+_, _-_};
 ghost use Rattle.std.specs.declared.option.Option.the-variants.{Some, None};
 ghost use Rattle.std.specs.shelf.Text.{sameBytes};
 ghost use Rattle.frame.specs.Requests.{commandOf, partsOf, comparisonParts, targetParts};
-ghost use Rattle.frame.specs.Openings.{seen};
-ghost use Rattle.tag.specs.Records.{bytesFrom, lockedAt, serialOf, inState, flagging, counting-to, permitting};
+ghost use Rattle.frame.specs.Openings.{opening, seen};
+ghost use Rattle.tag.specs.Records.{writeOk, bytesFrom, lockedAt, serialOf, inState, flagging, counting-to, permitting};
 ghost use Rattle.tag.specs.Replies.{dataIn, sounding};
-ghost use Rattle.tag.specs.Steps.{obeyed, answered, stepped, replied, unselected, staying, drawn, inTurn, isMatching, ifMeant, moved, writeOk, isWritable, written, locked, lockStatus};
-ghost use Rattle.tag.specs.declared.record.State.the-variants.{Ready, Singulation};
+ghost use Rattle.tag.specs.Steps.{joined, obeyed, answered, stepped, replied, unselected, staying, drawn, inTurn, isMatching, ifMeant, moved, isWritable, written, locked, lockStatus};
+ghost use Rattle.tag.specs.declared.record.State.the-variants.{Ready};
+use crate::record::SERIAL;
 use crate::record::SIZE;
 use crate::record::State;
 use crate::record::Tag;
 use crate::record::WriteMark;
 use crate::reply::Reply;
 use frame::opening::Frame;
+use frame::opening::open;
 use frame::request::Comparison;
 use frame::request::Request;
 use frame::request::Target;
 use protocol::refusal::Refusal;
 
 impl Tag {
+    // Steps the tag on the bytes of a frame.
+    pub fn hear(&mut self, bytes: &[u8], coin: bool) -> Option<Reply>
+        ensures tag { λ _. ⌜ now (self .exit) ≡ stepped (opening (now (bytes .entry))) coin (now (self .entry)) ⌝ }
+        ensures reply { λ r. ⌜ sounding (dataIn (now (self .exit)) r) ≡ replied (opening (now (bytes .entry))) coin (now (self .entry)) ⌝ }
+    {
+        self.step(&open(bytes), coin)
+    }
+
     // Steps the tag on what opening a frame gave, and tells what it replies.
     pub fn step(&mut self, opened: &Result<Frame<'_>, Refusal>, coin: bool) -> Option<Reply>
         ensures tag { λ _. ⌜ now (self .exit) ≡ stepped (seen (now (opened .entry))) coin (now (self .entry)) ⌝ }
@@ -48,7 +58,7 @@ impl Tag {
     {
         match (self.state, request) {
             (State::Ready, Request::Select(comparison)) => self.select(comparison),
-            (State::Singulation, Request::Select(_)) => self.unselect(false),
+            (State::Singulation, Request::Select(_)) => self.join(),
             (State::Singulation, Request::UnselectNe(comparison)) => {
                 let leaves = !self.is_matched(comparison);
                 self.unselect(leaves)
@@ -70,12 +80,20 @@ impl Tag {
     }
 
     fn select(&mut self, comparison: Comparison<'_>) -> Option<Reply>
-        ensures tag { λ _. ⌜ now (self .exit) ≡ cond (isMatching (comparisonParts (comparison .entry)) (now (self .entry))) (inState Singulation (counting-to 0 (now (self .entry)))) (now (self .entry)) ⌝ }
+        ensures tag { λ _. ⌜ now (self .exit) ≡ cond (isMatching (comparisonParts (comparison .entry)) (now (self .entry))) (joined (now (self .entry))) (now (self .entry)) ⌝ }
         ensures reply { λ r. ⌜ dataIn (now (self .exit)) r ≡ cond (isMatching (comparisonParts (comparison .entry)) (now (self .entry))) (Some (serialOf (now (self .entry)))) None ⌝ }
     {
         if !self.is_matched(comparison) {
             return None;
         }
+        self.join()
+    }
+
+    // Is selected from now on, and answers at once.
+    fn join(&mut self) -> Option<Reply>
+        ensures tag { λ _. ⌜ now (self .exit) ≡ joined (now (self .entry)) ⌝ }
+        ensures reply { λ r. ⌜ r ≡ Some Reply.Serial ⌝ }
+    {
         self.state = State::Singulation;
         self.counter = 0;
         Some(Reply::Serial)
@@ -84,7 +102,11 @@ impl Tag {
     fn is_matched(&self, comparison: Comparison<'_>) -> bool
         ensures { λ r. ⌜ r ≡ isMatching (comparisonParts (comparison .entry)) (now (self .entry)) ⌝ }
     {
-        self.matches(*comparison.address.byte, *comparison.mask.byte, comparison.word.bytes)
+        self.matches(
+            *comparison.address.byte,
+            *comparison.mask.byte,
+            comparison.word.bytes,
+        )
     }
 
     fn reset(&mut self) -> Option<Reply>
@@ -118,12 +140,10 @@ impl Tag {
             return None;
         }
         self.shift();
-        Some(
-            Reply::Memory {
-                address: *target.address.byte,
-                more: 3,
-            },
-        )
+        Some(Reply::Memory {
+            address: *target.address.byte,
+            more: 3,
+        })
     }
 
     fn write(&mut self, target: Target<'_>, mask: u8, bytes: &[u8]) -> Option<Reply>
@@ -149,10 +169,11 @@ impl Tag {
         ensures { λ r. ⌜ r ≡ isWritable (now (self .entry)) address ⌝ }
     {
         let start = usize::from(address);
-        address % 4 == 0 && !(self.is_locked(start)
-            || self.is_locked(start + 1)
-            || self.is_locked(start + 2)
-            || self.is_locked(start + 3))
+        address % 4 == 0
+            && !(self.is_locked(start)
+                || self.is_locked(start + 1)
+                || self.is_locked(start + 2)
+                || self.is_locked(start + 3))
     }
 
     fn lock(&mut self, target: Target<'_>, permitted: Option<u8>) -> Option<Reply>
@@ -204,12 +225,11 @@ impl Tag {
         ensures tag { λ _. ⌜ now (self .exit) ≡ unselected leaves (now (self .entry)) ⌝ }
         ensures reply { λ r. ⌜ dataIn (now (self .exit)) r ≡ staying leaves (now (self .entry)) ⌝ }
     {
-        if leaves {
-            self.state = State::Ready;
-            return None;
+        if !leaves {
+            return self.join();
         }
-        self.counter = 0;
-        Some(Reply::Serial)
+        self.state = State::Ready;
+        None
     }
 
     fn query(&mut self, coin: bool) -> Option<Reply>
@@ -245,7 +265,7 @@ impl Tag {
     fn is_called(&self, serial: &[u8]) -> bool
         ensures { λ r. ⌜ r ≡ sameBytes (serialOf (now (self .entry))) (now (serial .entry)) ⌝ }
     {
-        &self.memory[..8] == serial
+        &self.memory[..SERIAL] == serial
     }
 }
 

@@ -1,0 +1,15 @@
+use mathlib.Core.Path.{_≡_, sym, _∙_}
+use native.Mathlib.Omega.{arith}
+use borrow.Author.Needs.{needs}
+use Rattle.std.proofs.shelf.Lists.{length-take-le}
+use Rattle.tag.proofs.Bytes.{length-bytesFrom, length-sealed}
+use Rattle.tag.proofs.record.Tag.reply_length.Needs as need
+
+pub returns-in-Serial : need.returns-in-Serial
+returns-in-Serial c = search (needs, length-sealed, length-take-le)
+
+pub returns-in-Memory : need.returns-in-Memory
+returns-in-Memory c = search (needs, length-sealed, length-bytesFrom)
+
+pub returns-in-Status : need.returns-in-Status
+returns-in-Status c = search (needs, length-sealed)
