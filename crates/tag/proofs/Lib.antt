@@ -1,2 +1,4 @@
 pub mod Places
 pub mod Bytes
+pub mod Accounts
+pub mod Limits

@@ -94,9 +94,9 @@ byteOf p parts = getD (bytesOf p parts) 0 0
 abbrev pub isMatching : List Part → Tag → Bool
 isMatching parts t = matches t (byteOf Address parts) (byteOf Mask parts) (bytesOf Word parts)
 
--- The first for a tag with the frame's serial number, the second for any other.
-abbrev pub ifMeant : {X : Type 0} → List Part → Tag → X → X → X
-ifMeant parts t x y = cond (sameBytes (serialOf t) (bytesOf Serial parts)) x y
+-- Whether a tag has the frame's serial number.
+abbrev pub isMeant : List Part → Tag → Bool
+isMeant parts t = sameBytes (serialOf t) (bytesOf Serial parts)
 
 -- What a command does to a tag that its frame has met, given what was permitted before.
 abbrev pub obeyed : Command → List Part → Bool → Option ℕ → Tag → Tag
@@ -108,12 +108,12 @@ obeyed Query parts coin permitted t = ifSingulated (t .state) (counting-to (draw
 obeyed Scroll parts coin permitted t = ifSingulated (t .state) (counting-to (t .counter - 1) t) t
 obeyed Repeat parts coin permitted t = t
 obeyed Reset parts coin permitted t = inState Ready (flagging false t)
-obeyed Read parts coin permitted t = ifMeant parts t (permitting (Some (byteOf Address parts)) (moved t)) t
-obeyed ReadFlexible parts coin permitted t = ifMeant parts t (permitting (Some (byteOf Address parts)) (moved t)) t
-obeyed Verify parts coin permitted t = ifMeant parts t (cond (writeOk (t .mark)) (moved t) t) t
-obeyed Write parts coin permitted t = ifMeant parts t (written (byteOf Address parts) (byteOf Mask parts) (bytesOf Data parts) t) t
-obeyed Lock parts coin permitted t = ifMeant parts t (ifInventoried (t .state) (locked permitted (byteOf Address parts) t) t) t
-obeyed Qlock parts coin permitted t = ifMeant parts t (permitting (Some (byteOf Address parts)) (moved t)) t
+obeyed Read parts coin permitted t = cond (isMeant parts t) (permitting (Some (byteOf Address parts)) (moved t)) t
+obeyed ReadFlexible parts coin permitted t = cond (isMeant parts t) (permitting (Some (byteOf Address parts)) (moved t)) t
+obeyed Verify parts coin permitted t = cond (isMeant parts t) (cond (writeOk (t .mark)) (moved t) t) t
+obeyed Write parts coin permitted t = cond (isMeant parts t) (written (byteOf Address parts) (byteOf Mask parts) (bytesOf Data parts) t) t
+obeyed Lock parts coin permitted t = cond (isMeant parts t) (ifInventoried (t .state) (locked permitted (byteOf Address parts) t) t) t
+obeyed Qlock parts coin permitted t = cond (isMeant parts t) (permitting (Some (byteOf Address parts)) (moved t)) t
 
 -- The serial number, if it is a tag's turn: its counter is 0.
 abbrev pub inTurn : ℕ → Tag → Option (List ℕ)
@@ -129,13 +129,13 @@ answered Query parts coin t = ifSingulated (t .state) (inTurn (drawn coin (t .co
 answered Scroll parts coin t = ifSingulated (t .state) (inTurn (t .counter - 1) t) None
 answered Repeat parts coin t = ifSingulated (t .state) (inTurn (t .counter) t) None
 answered Reset parts coin t = None
-answered Read parts coin t = ifMeant parts t (Some (bytesFrom (t .memory) (byteOf Address parts) 8)) None
-answered ReadFlexible parts coin t = ifMeant parts t (Some (bytesFrom (t .memory) (byteOf Address parts) (byteOf Length parts + 1))) None
-answered Verify parts coin t = ifMeant parts t (cond (writeOk (t .mark)) (Some (bytesFrom (t .memory) (byteOf Address parts) 4)) None) None
-answered Write parts coin t = ifMeant parts t (Some (cond (isWritable t (byteOf Address parts)) 0x00 0xff ∷ [])) None
-answered Lock parts coin t = ifMeant parts t (ifInventoried (t .state) (Some (0x00 ∷ [])) None) None
+answered Read parts coin t = cond (isMeant parts t) (Some (bytesFrom (t .memory) (byteOf Address parts) 8)) None
+answered ReadFlexible parts coin t = cond (isMeant parts t) (Some (bytesFrom (t .memory) (byteOf Address parts) (byteOf Length parts + 1))) None
+answered Verify parts coin t = cond (isMeant parts t) (cond (writeOk (t .mark)) (Some (bytesFrom (t .memory) (byteOf Address parts) 4)) None) None
+answered Write parts coin t = cond (isMeant parts t) (Some (cond (isWritable t (byteOf Address parts)) 0x00 0xff ∷ [])) None
+answered Lock parts coin t = cond (isMeant parts t) (ifInventoried (t .state) (Some (0x00 ∷ [])) None) None
 answered Qlock parts coin t =
-    ifMeant parts t (Some (lockStatus (lockedAt t (byteOf Address parts)) (writeOk (t .mark)) ∷ [])) None
+    cond (isMeant parts t) (Some (lockStatus (lockedAt t (byteOf Address parts)) (writeOk (t .mark)) ∷ [])) None
 
 -- A tag after a frame, by what opening gave. One that fails by 1 or 2 makes it READY, by 3 or 4 does nothing more.
 abbrev pub stepped : Opening → Bool → Tag → Tag

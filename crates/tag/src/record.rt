@@ -1,6 +1,6 @@
 // What a tag holds.
 ghost use mathlib.Core.Path.{_≡_};
-ghost use lib.ListN.{getD};
+ghost use lib.ListN.{length, getD};
 ghost use Rattle.std.specs.Orderings.{Decides};
 ghost use Rattle.tag.specs.Records.{byteAt, lockedAt, serialOf, markNumber, fallen, writeOk, newTag};
 
@@ -114,6 +114,15 @@ impl Tag {
         ensures { λ r. ⌜ r ≡ lockedAt (now (self .entry)) address ⌝ }
     {
         element(&self.locks, address, true)
+    }
+
+    // Both rows are as long as their types say, which a proof knows of a slice alone.
+    pub(crate) fn sizes(&self)
+        ensures memory { λ _. ⌜ length (now (self .entry) .memory) ≡ 56 ⌝ }
+        ensures locks { λ _. ⌜ length (now (self .entry) .locks) ≡ 56 ⌝ }
+    {
+        let _: &[u8] = &self.memory;
+        let _: &[bool] = &self.locks;
     }
 }
 

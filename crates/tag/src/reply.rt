@@ -30,6 +30,7 @@ impl Tag {
     pub fn write_reply(&self, reply: Reply, buffer: &mut [u8]) -> Result<usize, Refusal>
         ensures answer { λ r. ⌜ answerOf r ≡ answering (writing (sealed (dataOf (now (self .entry)) reply)) (length (now (buffer .entry)))) ⌝ }
         ensures buffer { λ _. ⌜ now (buffer .exit) ≡ leaving (writing (sealed (dataOf (now (self .entry)) reply)) (length (now (buffer .entry)))) (now (buffer .entry)) ⌝ }
+        ensures longest { λ _. ⌜ length (sealed (dataOf (now (self .entry)) reply)) ≤ 258 ⌝ }
     {
         if buffer.len() < self.reply_length(reply) {
             return Err(Refusal::Buffer);
@@ -51,7 +52,8 @@ impl Tag {
 
     // How long a reply is, with its check value.
     fn reply_length(&self, reply: Reply) -> usize
-        ensures { λ r. ⌜ r ≡ length (sealed (dataOf (now (self .entry)) reply)) ⌝ }
+        ensures length { λ r. ⌜ r ≡ length (sealed (dataOf (now (self .entry)) reply)) ⌝ }
+        ensures longest { λ r. ⌜ r ≤ 258 ⌝ }
     {
         match reply {
             Reply::Serial => self.serial().len() + 2,

@@ -7,9 +7,11 @@ ghost use Rattle.std.specs.declared.option.Option.the-variants.{Some, None};
 ghost use Rattle.std.specs.shelf.Text.{sameBytes};
 ghost use Rattle.frame.specs.Requests.{commandOf, partsOf, comparisonParts, targetParts};
 ghost use Rattle.frame.specs.Openings.{opening, seen};
+ghost use Rattle.tag.specs.Cases.{Full-counters};
+ghost use Rattle.tag.specs.Memories.{Accounted};
 ghost use Rattle.tag.specs.Records.{writeOk, bytesFrom, lockedAt, serialOf, inState, flagging, counting-to, permitting};
-ghost use Rattle.tag.specs.Replies.{dataIn, sounding};
-ghost use Rattle.tag.specs.Steps.{joined, obeyed, answered, stepped, replied, unselected, staying, drawn, inTurn, isMatching, ifMeant, moved, isWritable, written, locked, lockStatus};
+ghost use Rattle.tag.specs.Replies.{dataIn, sounding, Residual};
+ghost use Rattle.tag.specs.Steps.{joined, obeyed, answered, stepped, replied, unselected, staying, drawn, inTurn, isMatching, isMeant, moved, isWritable, written, locked, lockStatus};
 ghost use Rattle.tag.specs.declared.record.State.the-variants.{Ready};
 use crate::record::SERIAL;
 use crate::record::SIZE;
@@ -35,6 +37,26 @@ impl Tag {
 
     // Steps the tag on what opening a frame gave, and tells what it replies.
     pub fn step(&mut self, opened: &Result<Frame<'_>, Refusal>, coin: bool) -> Option<Reply>
+        ensures tag { λ _. ⌜ now (self .exit) ≡ stepped (seen (now (opened .entry))) coin (now (self .entry)) ⌝ }
+        ensures reply { λ r. ⌜ sounding (dataIn (now (self .exit)) r) ≡ replied (seen (now (opened .entry))) coin (now (self .entry)) ⌝ }
+        ensures memory { λ _. ⌜ Accounted (seen (now (opened .entry))) (now (self .entry)) (now (self .exit)) ⌝ }
+        ensures residue { λ _. ⌜ Residual (replied (seen (now (opened .entry))) coin (now (self .entry))) ⌝ }
+        ensures counters { λ _. ⌜ Full-counters ⌝ }
+    {
+        self.laws(opened, coin);
+        self.advance(opened, coin)
+    }
+
+    // What holds of every step, for the proof of the above: it does nothing.
+    fn laws(&self, opened: &Result<Frame<'_>, Refusal>, coin: bool)
+        ensures memory { λ _. ⌜ Accounted (seen (now (opened .entry))) (now (self .entry)) (stepped (seen (now (opened .entry))) coin (now (self .entry))) ⌝ }
+        ensures residue { λ _. ⌜ Residual (replied (seen (now (opened .entry))) coin (now (self .entry))) ⌝ }
+        ensures counters { λ _. ⌜ Full-counters ⌝ }
+    {
+        self.sizes();
+    }
+
+    fn advance(&mut self, opened: &Result<Frame<'_>, Refusal>, coin: bool) -> Option<Reply>
         ensures tag { λ _. ⌜ now (self .exit) ≡ stepped (seen (now (opened .entry))) coin (now (self .entry)) ⌝ }
         ensures reply { λ r. ⌜ sounding (dataIn (now (self .exit)) r) ≡ replied (seen (now (opened .entry))) coin (now (self .entry)) ⌝ }
     {
@@ -120,8 +142,8 @@ impl Tag {
 
     // READ and READ_FLEXIBLE: a byte and so many more.
     fn read(&mut self, target: Target<'_>, more: u8) -> Option<Reply>
-        ensures tag { λ _. ⌜ now (self .exit) ≡ ifMeant (targetParts (target .entry)) (now (self .entry)) (permitting (Some (now (target .entry .address .byte))) (moved (now (self .entry)))) (now (self .entry)) ⌝ }
-        ensures reply { λ r. ⌜ dataIn (now (self .exit)) r ≡ ifMeant (targetParts (target .entry)) (now (self .entry)) (Some (bytesFrom (now (self .entry) .memory) (now (target .entry .address .byte)) (more + 1))) None ⌝ }
+        ensures tag { λ _. ⌜ now (self .exit) ≡ cond (isMeant (targetParts (target .entry)) (now (self .entry))) (permitting (Some (now (target .entry .address .byte))) (moved (now (self .entry)))) (now (self .entry)) ⌝ }
+        ensures reply { λ r. ⌜ dataIn (now (self .exit)) r ≡ cond (isMeant (targetParts (target .entry)) (now (self .entry))) (Some (bytesFrom (now (self .entry) .memory) (now (target .entry .address .byte)) (more + 1))) None ⌝ }
     {
         if !self.is_called(target.serial.bytes) {
             return None;
@@ -133,8 +155,8 @@ impl Tag {
     }
 
     fn verify(&mut self, target: Target<'_>) -> Option<Reply>
-        ensures tag { λ _. ⌜ now (self .exit) ≡ ifMeant (targetParts (target .entry)) (now (self .entry)) (cond (writeOk (now (self .entry) .mark)) (moved (now (self .entry))) (now (self .entry))) (now (self .entry)) ⌝ }
-        ensures reply { λ r. ⌜ dataIn (now (self .exit)) r ≡ ifMeant (targetParts (target .entry)) (now (self .entry)) (cond (writeOk (now (self .entry) .mark)) (Some (bytesFrom (now (self .entry) .memory) (now (target .entry .address .byte)) 4)) None) None ⌝ }
+        ensures tag { λ _. ⌜ now (self .exit) ≡ cond (isMeant (targetParts (target .entry)) (now (self .entry))) (cond (writeOk (now (self .entry) .mark)) (moved (now (self .entry))) (now (self .entry))) (now (self .entry)) ⌝ }
+        ensures reply { λ r. ⌜ dataIn (now (self .exit)) r ≡ cond (isMeant (targetParts (target .entry)) (now (self .entry))) (cond (writeOk (now (self .entry) .mark)) (Some (bytesFrom (now (self .entry) .memory) (now (target .entry .address .byte)) 4)) None) None ⌝ }
     {
         if !self.is_called(target.serial.bytes) || !self.mark.is_ok() {
             return None;
@@ -147,8 +169,8 @@ impl Tag {
     }
 
     fn write(&mut self, target: Target<'_>, mask: u8, bytes: &[u8]) -> Option<Reply>
-        ensures tag { λ _. ⌜ now (self .exit) ≡ ifMeant (targetParts (target .entry)) (now (self .entry)) (written (now (target .entry .address .byte)) mask (now (bytes .entry)) (now (self .entry))) (now (self .entry)) ⌝ }
-        ensures reply { λ r. ⌜ dataIn (now (self .exit)) r ≡ ifMeant (targetParts (target .entry)) (now (self .entry)) (Some (cond (isWritable (now (self .entry)) (now (target .entry .address .byte))) 0x00 0xff ∷ [])) None ⌝ }
+        ensures tag { λ _. ⌜ now (self .exit) ≡ cond (isMeant (targetParts (target .entry)) (now (self .entry))) (written (now (target .entry .address .byte)) mask (now (bytes .entry)) (now (self .entry))) (now (self .entry)) ⌝ }
+        ensures reply { λ r. ⌜ dataIn (now (self .exit)) r ≡ cond (isMeant (targetParts (target .entry)) (now (self .entry))) (Some (cond (isWritable (now (self .entry)) (now (target .entry .address .byte))) 0x00 0xff ∷ [])) None ⌝ }
     {
         if !self.is_called(target.serial.bytes) {
             return None;
@@ -177,8 +199,8 @@ impl Tag {
     }
 
     fn lock(&mut self, target: Target<'_>, permitted: Option<u8>) -> Option<Reply>
-        ensures tag { λ _. ⌜ now (self .exit) ≡ ifMeant (targetParts (target .entry)) (now (self .entry)) (locked permitted (now (target .entry .address .byte)) (now (self .entry))) (now (self .entry)) ⌝ }
-        ensures reply { λ r. ⌜ dataIn (now (self .exit)) r ≡ ifMeant (targetParts (target .entry)) (now (self .entry)) (Some (0x00 ∷ [])) None ⌝ }
+        ensures tag { λ _. ⌜ now (self .exit) ≡ cond (isMeant (targetParts (target .entry)) (now (self .entry))) (locked permitted (now (target .entry .address .byte)) (now (self .entry))) (now (self .entry)) ⌝ }
+        ensures reply { λ r. ⌜ dataIn (now (self .exit)) r ≡ cond (isMeant (targetParts (target .entry)) (now (self .entry))) (Some (0x00 ∷ [])) None ⌝ }
     {
         if !self.is_called(target.serial.bytes) {
             return None;
@@ -201,8 +223,8 @@ impl Tag {
     }
 
     fn qlock(&mut self, target: Target<'_>) -> Option<Reply>
-        ensures tag { λ _. ⌜ now (self .exit) ≡ ifMeant (targetParts (target .entry)) (now (self .entry)) (permitting (Some (now (target .entry .address .byte))) (moved (now (self .entry)))) (now (self .entry)) ⌝ }
-        ensures reply { λ r. ⌜ dataIn (now (self .exit)) r ≡ ifMeant (targetParts (target .entry)) (now (self .entry)) (Some (lockStatus (lockedAt (now (self .entry)) (now (target .entry .address .byte))) (writeOk (now (self .entry) .mark)) ∷ [])) None ⌝ }
+        ensures tag { λ _. ⌜ now (self .exit) ≡ cond (isMeant (targetParts (target .entry)) (now (self .entry))) (permitting (Some (now (target .entry .address .byte))) (moved (now (self .entry)))) (now (self .entry)) ⌝ }
+        ensures reply { λ r. ⌜ dataIn (now (self .exit)) r ≡ cond (isMeant (targetParts (target .entry)) (now (self .entry))) (Some (lockStatus (lockedAt (now (self .entry)) (now (target .entry .address .byte))) (writeOk (now (self .entry) .mark)) ∷ [])) None ⌝ }
     {
         if !self.is_called(target.serial.bytes) {
             return None;
