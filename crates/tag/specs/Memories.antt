@@ -1,5 +1,4 @@
 -- What a frame changes in the memory of a tag, address by address. Assumes nothing.
-use mathlib.Core.List.{List}
 use mathlib.Core.Bool.{Bool, true, false, cond, _&&_, _||_}
 use mathlib.Core.Path.{_≡_}
 use Prim.Native.Nat.{ℕ, _+_, _-_}
@@ -10,7 +9,7 @@ use Rattle.protocol.specs.declared.command.Command.the-variants.{Lock, Write}
 use Rattle.protocol.specs.declared.command.Parameter.the-variants.{Address, Mask, Data}
 use Rattle.protocol.specs.Commands.{codeOf}
 use Rattle.frame.specs.Openings.{Opening, refused, opened}
-use Rattle.frame.specs.Parts.{Part, bytesOf}
+use Rattle.frame.specs.Parts.{bytesOf}
 use Rattle.tag.specs.declared.record.Tag.{Tag}
 use Rattle.tag.specs.Masks.{selects}
 use Rattle.tag.specs.Records.{byteAt, lockedAt}

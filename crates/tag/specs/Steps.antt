@@ -66,6 +66,10 @@ drawn coin n = cond (ltb 0 n || coin) (risen n) n
 abbrev pub moved : Tag → Tag
 moved t = inState Inventoried (flagging true t)
 
+-- VERIFY: only under WRITE_OK does a tag move.
+abbrev pub verified : Tag → Tag
+verified t = cond (writeOk (t .mark)) (moved t) t
+
 -- Whether WRITE may store at an address: a multiple of 4, and none of the four bytes is locked.
 abbrev pub isWritable : Tag → ℕ → Bool
 isWritable t a = eqb (a % 4) 0 && not (lockedAt t a || lockedAt t (a + 1) || lockedAt t (a + 2) || lockedAt t (a + 3))
@@ -110,7 +114,7 @@ obeyed Repeat parts coin permitted t = t
 obeyed Reset parts coin permitted t = inState Ready (flagging false t)
 obeyed Read parts coin permitted t = cond (isMeant parts t) (permitting (Some (byteOf Address parts)) (moved t)) t
 obeyed ReadFlexible parts coin permitted t = cond (isMeant parts t) (permitting (Some (byteOf Address parts)) (moved t)) t
-obeyed Verify parts coin permitted t = cond (isMeant parts t) (cond (writeOk (t .mark)) (moved t) t) t
+obeyed Verify parts coin permitted t = cond (isMeant parts t) (verified t) t
 obeyed Write parts coin permitted t = cond (isMeant parts t) (written (byteOf Address parts) (byteOf Mask parts) (bytesOf Data parts) t) t
 obeyed Lock parts coin permitted t = cond (isMeant parts t) (ifInventoried (t .state) (locked permitted (byteOf Address parts) t) t) t
 obeyed Qlock parts coin permitted t = cond (isMeant parts t) (permitting (Some (byteOf Address parts)) (moved t)) t

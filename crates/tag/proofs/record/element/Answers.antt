@@ -1,7 +1,4 @@
 use borrow.Author.Needs.{needs}
-use mathlib.Core.Path.{sym}
-use native.Mathlib.Omega.{arith}
-use Prim.Native.Nat.{ℕ}
 use Rattle.std.proofs.shelf.Lists.{getD-past}
 use Rattle.tag.proofs.record.element.Needs as need
 

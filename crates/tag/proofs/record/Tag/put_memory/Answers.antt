@@ -1,12 +1,11 @@
-use mathlib.Core.Bool.{true, false}
+use mathlib.Core.Bool.{true}
 use mathlib.Core.List.{List, [], _∷_, _++_}
 use mathlib.Core.Path.{_≡_, sym, ap, subst, _∙_}
-use Prim.Native.Nat.{ℕ, _+_, _≤_}
+use Prim.Native.Nat.{ℕ, _+_}
 use native.Mathlib.Omega.{arith}
 use borrow.Author.Needs.{needs}
 use borrow.Author.Tests.{false-leb}
 use lib.ListN.{length, getD}
-use Rattle.std.proofs.shelf.Results.{err-from-errBy}
 use Rattle.frame.specs.Writing.{Put}
 use Rattle.frame.proofs.Writes.{put-none, put-more, put-room}
 use Rattle.tag.specs.Records.{bytesFrom}
