@@ -4,25 +4,23 @@ use mathlib.Core.Bool.{Bool, true, cond, _&&_}
 use Prim.Native.Nat.{ℕ, zero, suc, _+_, _-_, _/_, _%_, _^_}
 use lib.Dec.{eqb}
 use lib.ListN.{getD, set}
-use Rattle.tag.specs.declared.record.Tag.{Tag}
-use Rattle.tag.specs.Records.{byteAt}
 
 -- Whether a mask selects the byte at some place, from 0: its bits stand for the places, the highest for the first.
 abbrev pub selects : ℕ → ℕ → Bool
 selects mask i = eqb (mask / 2 ^ (7 - i) % 2) 1
 
--- Whether the byte at a place is the wanted one, or not selected.
-abbrev pub agreesAt : Tag → ℕ → ℕ → List ℕ → ℕ → Bool
-agreesAt t a mask word i = cond (selects mask i) (eqb (byteAt t (a + i)) (getD word i 0)) true
+-- Whether the byte at a place from an address on is the wanted one, or not selected.
+abbrev pub agreesAt : List ℕ → ℕ → ℕ → List ℕ → ℕ → Bool
+agreesAt memory a mask word i = cond (selects mask i) (eqb (getD memory (a + i) 0) (getD word i 0)) true
 
 -- Whether the first n places agree.
-unfoldable pub agree : Tag → ℕ → ℕ → List ℕ → ℕ → Bool
-agree t a mask word zero = true
-agree t a mask word (suc n) = agree t a mask word n && agreesAt t a mask word n
+unfoldable pub agree : List ℕ → ℕ → ℕ → List ℕ → ℕ → Bool
+agree memory a mask word zero = true
+agree memory a mask word (suc n) = agree memory a mask word n && agreesAt memory a mask word n
 
 -- Masked comparison looks at eight bytes from an address on.
-abbrev pub matches : Tag → ℕ → ℕ → List ℕ → Bool
-matches t a mask word = agree t a mask word 8
+abbrev pub matches : List ℕ → ℕ → ℕ → List ℕ → Bool
+matches memory a mask word = agree memory a mask word 8
 
 -- The memory once the byte at a place is stored, if it is selected.
 abbrev pub storedAt : ℕ → ℕ → List ℕ → List ℕ → ℕ → List ℕ

@@ -96,7 +96,7 @@ byteOf p parts = getD (bytesOf p parts) 0 0
 
 -- Whether the masked bytes are those of the frame.
 abbrev pub isMatching : List Part → Tag → Bool
-isMatching parts t = matches t (byteOf Address parts) (byteOf Mask parts) (bytesOf Word parts)
+isMatching parts t = matches (t .memory) (byteOf Address parts) (byteOf Mask parts) (bytesOf Word parts)
 
 -- Whether a tag has the frame's serial number.
 abbrev pub isMeant : List Part → Tag → Bool

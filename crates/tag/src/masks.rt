@@ -11,7 +11,7 @@ use crate::record::element;
 impl Tag {
     // Whether the selected ones of eight bytes from an address on are those of a word.
     pub(crate) fn matches(&self, address: u8, mask: u8, word: &[u8]) -> bool
-        ensures { λ r. ⌜ r ≡ matches (now (self .entry)) address mask (now (word .entry)) ⌝ }
+        ensures { λ r. ⌜ r ≡ matches (now (self .entry) .memory) address mask (now (word .entry)) ⌝ }
     {
         for place in 0..8 {
             if !self.agrees_at(address, mask, word, place) {
@@ -33,7 +33,7 @@ impl Tag {
     // Whether the byte at a place is the wanted one, or not selected.
     fn agrees_at(&self, address: u8, mask: u8, word: &[u8], place: usize) -> bool
         requires { ⌜ place < 8 ⌝ }
-        ensures { λ r. ⌜ r ≡ agreesAt (now (self .entry)) address mask (now (word .entry)) place ⌝ }
+        ensures { λ r. ⌜ r ≡ agreesAt (now (self .entry) .memory) address mask (now (word .entry)) place ⌝ }
     {
         !selects(mask, place) || self.byte(usize::from(address) + place) == element(word, place, 0)
     }

@@ -89,25 +89,24 @@ impl Tag {
             (State::Singulation, Request::Scroll) => self.scroll(),
             (State::Singulation, Request::Repeat) => self.in_turn(),
             (_, Request::Reset) => self.reset(),
-            (_, Request::Read(target)) if self.is_meant(target) => self.read(
-                *target.address.byte,
-                7,
-            ),
+            (_, Request::Read(target)) if self.is_meant(target) => {
+                self.read(*target.address.byte, 7)
+            }
             (_, Request::ReadFlexible(target, length)) if self.is_meant(target) => {
                 self.read(*target.address.byte, *length.byte)
             }
-            (_, Request::Verify(target)) if self.is_meant(target) => self.verify(
-                *target.address.byte,
-            ),
+            (_, Request::Verify(target)) if self.is_meant(target) => {
+                self.verify(*target.address.byte)
+            }
             (_, Request::Write(target, mask, bytes)) if self.is_meant(target) => {
                 self.write(*target.address.byte, *mask.byte, bytes.bytes)
             }
             (State::Inventoried, Request::Lock(target)) if self.is_meant(target) => {
                 self.lock(*target.address.byte, permitted)
             }
-            (_, Request::Qlock(target)) if self.is_meant(target) => self.qlock(
-                *target.address.byte,
-            ),
+            (_, Request::Qlock(target)) if self.is_meant(target) => {
+                self.qlock(*target.address.byte)
+            }
             _ => None,
         }
     }

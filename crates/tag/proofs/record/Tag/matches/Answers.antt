@@ -10,7 +10,7 @@ loop-place-holds c = search (needs, agree-none)
 
 pub returns-then-not-agrees-at : need.returns-then-not-agrees-at
 returns-then-not-agrees-at c =
-    let m = agree-more (c .args .self .now) (c .args .address) (c .args .mask) (c .args .word .now) (c .loop-place .place) (c .loop-place .inv) in
+    let m = agree-more (c .args .self .now .memory) (c .args .address) (c .args .mask) (c .args .word .now) (c .loop-place .place) (c .loop-place .inv) in
     let e : 7 - c .loop-place .place + (c .loop-place .place + 1) ≡ 8 = omega arith in
     sym (agree-stays _ _ _ _ (c .loop-place .place + 1) (7 - c .loop-place .place) 8 e (m ∙ sym (c .if-not-agrees-at .ensures tt)))
 
