@@ -1,12 +1,12 @@
 //! Which questions are asked.
 
 use crate::crc;
-use crate::frame::{self, Command, COMMANDS};
+use crate::frame::{self, sealed_with, Command, COMMANDS};
 use crate::question::Question;
 use crate::random::Random;
 
 /// Codes of no command, most of them one bit away from a known one.
-const UNKNOWN_CODES: [u8; 10] = [0x01, 0x04, 0x0B, 0x0D, 0x18, 0x1C, 0x50, 0x80, 0x9B, 0xFF];
+pub const UNKNOWN_CODES: [u8; 10] = [0x01, 0x04, 0x0B, 0x0D, 0x18, 0x1C, 0x50, 0x80, 0x9B, 0xFF];
 
 /// The longest byte string tried where every length is tried.
 const LONGEST: usize = 20;
@@ -272,10 +272,6 @@ impl Cases {
             self.make(code, length, frame::SHORTEST + length);
         }
     }
-}
-
-fn sealed_with(code: u8, parameters: &[u8]) -> Vec<u8> {
-    frame::sealed(&[&[code], parameters].concat())
 }
 
 #[cfg(test)]

@@ -12,7 +12,27 @@ pub struct Parameter {
     length: usize,
 }
 
+/// The commands by name, each with its code.
+#[derive(Clone, Copy, Debug, PartialEq, Eq, Hash)]
+pub enum Name {
+    Select = 0x00,
+    UnselectNe = 0x05,
+    UnselectIdFlag = 0x19,
+    UnselectNoIdFlag = 0x1A,
+    Query = 0x08,
+    Scroll = 0x09,
+    Repeat = 0x15,
+    Reset = 0x0A,
+    Read = 0x0C,
+    Verify = 0x1D,
+    Lock = 0x0F,
+    QLock = 0x11,
+    ReadFlexible = 0x51,
+    Write = 0x1B,
+}
+
 pub struct Command {
+    pub name: Name,
     pub code: u8,
     parameters: &'static [Parameter],
 }
@@ -49,8 +69,12 @@ const fn parameter(name: &'static str, length: usize) -> Parameter {
     Parameter { name, length }
 }
 
-const fn command(code: u8, parameters: &'static [Parameter]) -> Command {
-    Command { code, parameters }
+const fn command(name: Name, parameters: &'static [Parameter]) -> Command {
+    Command {
+        name,
+        code: name as u8,
+        parameters,
+    }
 }
 
 const NOTHING: &[Parameter] = &[];
@@ -74,20 +98,20 @@ const CHANGE: &[Parameter] = &[
 ];
 
 pub static COMMANDS: [Command; 14] = [
-    command(0x00, COMPARISON), // SELECT
-    command(0x05, COMPARISON), // UNSELECT_NE
-    command(0x19, FILLER),     // UNSELECT_ID_FLAG
-    command(0x1A, FILLER),     // UNSELECT_NOID_FLAG
-    command(0x08, NOTHING),    // QUERY
-    command(0x09, NOTHING),    // SCROLL
-    command(0x15, NOTHING),    // REPEAT
-    command(0x0A, NOTHING),    // RESET
-    command(0x0C, PLACE),      // READ
-    command(0x1D, PLACE),      // VERIFY
-    command(0x0F, PLACE),      // LOCK
-    command(0x11, PLACE),      // QLOCK
-    command(0x51, STRETCH),    // READ_FLEXIBLE
-    command(0x1B, CHANGE),     // WRITE
+    command(Name::Select, COMPARISON),
+    command(Name::UnselectNe, COMPARISON),
+    command(Name::UnselectIdFlag, FILLER),
+    command(Name::UnselectNoIdFlag, FILLER),
+    command(Name::Query, NOTHING),
+    command(Name::Scroll, NOTHING),
+    command(Name::Repeat, NOTHING),
+    command(Name::Reset, NOTHING),
+    command(Name::Read, PLACE),
+    command(Name::Verify, PLACE),
+    command(Name::Lock, PLACE),
+    command(Name::QLock, PLACE),
+    command(Name::ReadFlexible, STRETCH),
+    command(Name::Write, CHANGE),
 ];
 
 pub fn find(code: u8) -> Option<&'static Command> {
@@ -95,7 +119,7 @@ pub fn find(code: u8) -> Option<&'static Command> {
 }
 
 /// Why a frame is not opened or not made; the numbers are part of the answers.
-#[derive(Clone, Copy, Debug, PartialEq)]
+#[derive(Clone, Copy, Debug, PartialEq, Eq, Hash)]
 pub enum Refusal {
     TooShort = 1,
     WrongCheck = 2,
@@ -114,13 +138,18 @@ pub struct Part {
 
 #[derive(Debug, PartialEq)]
 pub struct Opened {
-    pub code: u8,
+    pub name: Name,
     pub parts: Vec<Part>,
 }
 
 /// The bytes with their check value behind them.
 pub fn sealed(bytes: &[u8]) -> Vec<u8> {
     [bytes, &crc::check_value(bytes)].concat()
+}
+
+/// A code and parameters with their check value, whether they make sense or not.
+pub fn sealed_with(code: u8, parameters: &[u8]) -> Vec<u8> {
+    sealed(&[&[code], parameters].concat())
 }
 
 pub fn open(bytes: &[u8]) -> Result<Opened, Refusal> {
@@ -136,7 +165,7 @@ pub fn open(bytes: &[u8]) -> Result<Opened, Refusal> {
         return Err(Refusal::WrongLength);
     }
     Ok(Opened {
-        code: command.code,
+        name: command.name,
         parts: command.parts(),
     })
 }
@@ -147,7 +176,7 @@ pub fn make(code: u8, parameters: &[u8], buffer: &mut [u8]) -> Result<usize, Ref
     if parameters.len() != command.parameters_length() {
         return Err(Refusal::WrongLength);
     }
-    let frame = sealed(&[&[code], parameters].concat());
+    let frame = sealed_with(code, parameters);
     let front = buffer.get_mut(..frame.len()).ok_or(Refusal::NoRoom)?;
     front.copy_from_slice(&frame);
     Ok(frame.len())
@@ -185,17 +214,17 @@ mod tests {
     #[test]
     fn frames_without_parameters() {
         let frames = [
-            [0x09, 0x8F, 0x26],
-            [0x08, 0x9F, 0x07],
-            [0x0A, 0xBF, 0x45],
-            [0x15, 0x5C, 0x9B],
+            (Name::Scroll, [0x09, 0x8F, 0x26]),
+            (Name::Query, [0x08, 0x9F, 0x07]),
+            (Name::Reset, [0x0A, 0xBF, 0x45]),
+            (Name::Repeat, [0x15, 0x5C, 0x9B]),
         ];
-        for frame in frames {
+        for (name, frame) in frames {
             let mut buffer = [0; 3];
             assert_eq!(
                 open(&frame),
                 Ok(Opened {
-                    code: frame[0],
+                    name,
                     parts: vec![]
                 })
             );

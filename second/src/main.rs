@@ -1,17 +1,33 @@
-//! Writes questions about the chip's frames and the answers expected to them.
+//! Writes questions about the chip and the answers expected to them.
 
 mod cases;
 mod crc;
 mod frame;
+mod order;
 mod question;
 mod random;
+mod tag;
+mod tag_asker;
+mod tag_cases;
+mod tag_lives;
+mod tag_question;
 
 use std::ffi::OsString;
 use std::path::{Path, PathBuf};
 use std::process::ExitCode;
 use std::{env, fs};
 
+const USAGE: &str = "usage: second frames SEED INPUT_FILE OUTPUT_FILE
+       second tags SEED INPUT_FILE OUTPUT_FILE";
+
+/// What the questions are about.
+enum Subject {
+    Frames,
+    Tags,
+}
+
 struct Job {
+    subject: Subject,
     seed: u64,
     input: PathBuf,
     output: PathBuf,
@@ -20,7 +36,7 @@ struct Job {
 fn main() -> ExitCode {
     let words: Vec<OsString> = env::args_os().skip(1).collect();
     let Some(job) = understand(&words) else {
-        eprintln!("usage: second frames SEED INPUT_FILE OUTPUT_FILE");
+        eprintln!("{USAGE}");
         return ExitCode::from(2);
     };
     match run(&job) {
@@ -36,11 +52,14 @@ fn understand(words: &[OsString]) -> Option<Job> {
     let [verb, seed, input, output] = words else {
         return None;
     };
-    if verb != "frames" {
-        return None;
-    }
+    let subject = match verb.to_str()? {
+        "frames" => Subject::Frames,
+        "tags" => Subject::Tags,
+        _ => return None,
+    };
     let seed = seed.to_str()?.parse().ok()?;
     Some(Job {
+        subject,
         seed,
         input: input.into(),
         output: output.into(),
@@ -50,12 +69,26 @@ fn understand(words: &[OsString]) -> Option<Job> {
 fn run(job: &Job) -> Result<(), String> {
     let mut questions = String::new();
     let mut answers = String::new();
-    for question in cases::all(job.seed) {
+    for (question, answer) in lines(job) {
         questions += &format!("{question}\n");
-        answers += &format!("{}\n", question.answer());
+        answers += &format!("{answer}\n");
     }
     save(&job.input, &questions)?;
     save(&job.output, &answers)
+}
+
+/// Each question with its answer.
+fn lines(job: &Job) -> Vec<(String, String)> {
+    match job.subject {
+        Subject::Frames => cases::all(job.seed)
+            .iter()
+            .map(|question| (question.to_string(), question.answer()))
+            .collect(),
+        Subject::Tags => tag_cases::all(job.seed)
+            .into_iter()
+            .map(|asked| (asked.question.to_string(), asked.answer))
+            .collect(),
+    }
 }
 
 fn save(path: &Path, text: &str) -> Result<(), String> {
@@ -72,13 +105,27 @@ mod tests {
     }
 
     #[test]
+    fn the_verb_settles_the_subject() {
+        let first = |line: &str| {
+            let words: Vec<OsString> = line.split_whitespace().map(OsString::from).collect();
+            let job = understand(&words).expect("the arguments are right");
+            lines(&job)[0].0.clone()
+        };
+        assert!(first("frames 1 q a").starts_with("check "));
+        assert!(first("tags 1 q a").starts_with("step "));
+    }
+
+    #[test]
     fn only_the_right_arguments_are_understood() {
         assert!(understood("frames 1 q a"));
+        assert!(understood("tags 1 q a"));
         assert!(understood("frames 18446744073709551615 q a"));
         assert!(!understood("frames 18446744073709551616 q a"));
         assert!(!understood("frames x q a"));
         assert!(!understood("frames 1 q"));
         assert!(!understood("frames 1 q a b"));
+        assert!(!understood("tags 1 q"));
+        assert!(!understood("tag 1 q a"));
         assert!(!understood("words 1 q a"));
         assert!(!understood(""));
     }

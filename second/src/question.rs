@@ -53,7 +53,7 @@ fn answer_open(bytes: &[u8]) -> String {
 }
 
 fn opened_line(opened: &Opened) -> String {
-    let mut line = format!("opened {:02X}", opened.code);
+    let mut line = format!("opened {:02X}", opened.name as u8);
     for Part {
         name,
         offset,
@@ -80,7 +80,7 @@ fn filled(room: usize) -> Vec<u8> {
         .collect()
 }
 
-fn hex(bytes: &[u8]) -> String {
+pub fn hex(bytes: &[u8]) -> String {
     // An empty word would vanish between the blanks.
     if bytes.is_empty() {
         return "-".to_string();

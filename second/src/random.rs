@@ -32,6 +32,19 @@ impl Random {
         let span = (last - first) as u64 + 1;
         first + (self.word() % span) as usize
     }
+
+    pub fn coin(&mut self) -> bool {
+        self.between(0, 1) == 1
+    }
+
+    /// Comes true once in so many times.
+    pub fn one_in(&mut self, times: usize) -> bool {
+        self.between(1, times) == 1
+    }
+
+    pub fn pick<T: Copy>(&mut self, from: &[T]) -> T {
+        from[self.between(0, from.len() - 1)]
+    }
 }
 
 #[cfg(test)]
@@ -51,5 +64,16 @@ mod tests {
         let numbers: Vec<usize> = (0..200).map(|_| random.between(3, 5)).collect();
         assert!(numbers.iter().all(|number| (3..=5).contains(number)));
         assert!((3..=5).all(|number| numbers.contains(&number)));
+    }
+
+    #[test]
+    fn picks_and_tosses_everything() {
+        let mut random = Random::new(8);
+        let picked: Vec<u8> = (0..100).map(|_| random.pick(&[4, 6])).collect();
+        assert!(picked.contains(&4) && picked.contains(&6));
+        let tossed: Vec<bool> = (0..100).map(|_| random.coin()).collect();
+        assert!(tossed.contains(&true) && tossed.contains(&false));
+        let rare = (0..1000).filter(|_| random.one_in(10)).count();
+        assert!((50..200).contains(&rare), "{rare} times");
     }
 }
