@@ -16,7 +16,7 @@ use Rattle.std.specs.declared.option.Option.{Option}
 use Rattle.std.specs.declared.option.Option.the-variants.{Some, None}
 use Rattle.protocol.specs.declared.command.Command.{Command}
 use Rattle.protocol.specs.declared.command.Command.the-variants.{Select, UnselectNe, UnselectIdFlag, UnselectNoidFlag, Query, Scroll, Repeat, Reset, Read, Verify, Lock, Qlock, ReadFlexible, Write}
-use Rattle.protocol.specs.declared.command.Parameter.the-variants.{Address, Mask, Data}
+use Rattle.protocol.specs.declared.command.Parameter.the-variants.{Serial, Address, Mask, Data}
 use Rattle.frame.specs.Openings.{Opening, refused, opened}
 use Rattle.frame.specs.Parts.{Part, bytesOf}
 use Rattle.tag.specs.declared.record.State.{State}
@@ -25,8 +25,9 @@ use Rattle.tag.specs.declared.record.WriteMark.the-variants.{Clear, Fresh}
 use Rattle.tag.specs.declared.record.Tag.{Tag}
 use Rattle.tag.specs.Masks.{selects, storedAt, stored}
 use Rattle.tag.specs.Memories.{isReached, storesAt, locksAt, Accounted}
-use Rattle.tag.specs.Records.{lockedAt, writeOk, permitting, marking, remembering, locking}
-use Rattle.tag.specs.Steps.{met, moved, stepped, ifSingulated, ifInventoried, byteOf, isMeant, isWritable, isLockable}
+use Rattle.tag.specs.Orders.{damaged, unknown, byteOf}
+use Rattle.tag.specs.Records.{lockedAt, writeOk, inState, permitting, marking, remembering, locking}
+use Rattle.tag.specs.Steps.{met, moved, obeyed, stepped, ifSingulated, ifInventoried, isMeant, isWritable, isLockable}
 
 -- Two records with the same memory and the same locks.
 record Same (t u : Tag) : Type 0 where
@@ -44,6 +45,10 @@ singulated : (t : Tag) (s : State) (x : Tag) → Same t x → Same t (ifSingulat
 singulated t Ready x p = (still t _ refl refl)
 singulated t Singulation x p = p
 singulated t Inventoried x p = (still t _ refl refl)
+
+not-opened : (coin : Bool) (t : Tag) (b : Bool) → Same t (obeyed (cond b damaged unknown) coin (t .permission) (met t))
+not-opened coin t true = still t (inState Ready (met t)) refl refl
+not-opened coin t false = still t (met t) refl refl
 
 or-nothing : (b : Bool) → b ≡ (b || false)
 or-nothing true = refl
@@ -128,7 +133,7 @@ writable-inside t a ll h =
     let inside = unlocked-inside (t .locks) (a + 3) (last .1) in
     omega arith
 
-wrote : (code : ℕ) (parts : List Part) (t : Tag) → length (t .memory) ≡ 56 → length (t .locks) ≡ 56 → (meant writable : Bool) → isMeant parts t ≡ meant
+wrote : (code : ℕ) (parts : List Part) (t : Tag) → length (t .memory) ≡ 56 → length (t .locks) ≡ 56 → (meant writable : Bool) → isMeant t (bytesOf Serial parts) ≡ meant
     → isWritable t (byteOf Address parts) ≡ writable
     → Accounted (opened code Write parts) t
     (cond meant
@@ -137,9 +142,9 @@ wrote : (code : ℕ) (parts : List Part) (t : Tag) → length (t .memory) ≡ 56
     (marking Fresh (remembering (stored (byteOf Address parts) (byteOf Mask parts) (bytesOf Data parts) (t .memory) 4) (moved (met t)))))
     (marking Clear (moved (met t)))) (met t))
 wrote code parts t lm ll false writable em ew =
-    untouched (opened code Write parts) t (met t) (λ i. and-left (isMeant parts t) _ em) (λ i. refl) (still t (met t) refl refl)
+    untouched (opened code Write parts) t (met t) (λ i. and-left (isMeant t (bytesOf Serial parts)) _ em) (λ i. refl) (still t (met t) refl refl)
 wrote code parts t lm ll true false em ew =
-    untouched (opened code Write parts) t (marking Clear (moved (met t))) (λ i. and-right (isMeant parts t) _ (and-left (isWritable t (byteOf Address parts)) _ ew)) (λ i. refl)
+    untouched (opened code Write parts) t (marking Clear (moved (met t))) (λ i. and-right (isMeant t (bytesOf Serial parts)) _ (and-left (isWritable t (byteOf Address parts)) _ ew)) (λ i. refl)
     (still t (marking Clear (moved (met t))) refl refl)
 wrote code parts t lm ll true true em ew =
     let a : ℕ = byteOf Address parts in
@@ -164,23 +169,23 @@ locks-at row a i h =
       | inr off ↦ getD-set-other row a i true true (off .1) ∙ or-nothing (getD row i true) ∙ ap (λ (b : Bool). getD row i true || b) (sym (off .0))
     ]
 
-locked-at : (code : ℕ) (parts : List Part) (t : Tag) → length (t .locks) ≡ 56 → (meant lockable : Bool) (s : State) → isMeant parts t ≡ meant
+locked-at : (code : ℕ) (parts : List Part) (t : Tag) → length (t .locks) ≡ 56 → (meant lockable : Bool) (s : State) → isMeant t (bytesOf Serial parts) ≡ meant
     → t .state ≡ s → isLockable (t .permission) (byteOf Address parts) ≡ lockable
     → Accounted (opened code Lock parts) t
     (cond meant
     (ifInventoried s (cond lockable (marking Fresh (locking (set (t .locks) (byteOf Address parts) true) (met t))) (marking Clear (met t))) (met t))
     (met t))
 locked-at code parts t ll false lockable s em es ek =
-    untouched (opened code Lock parts) t (met t) (λ i. refl) (λ i. and-left (isMeant parts t) _ em) (still t (met t) refl refl)
+    untouched (opened code Lock parts) t (met t) (λ i. refl) (λ i. and-left (isMeant t (bytesOf Serial parts)) _ em) (still t (met t) refl refl)
 locked-at code parts t ll true lockable Ready em es ek =
-    untouched (opened code Lock parts) t (met t) (λ i. refl) (λ i. and-right (isMeant parts t) _ (and-left _ _ (ap (λ (x : State). ifInventoried x true false) es)))
+    untouched (opened code Lock parts) t (met t) (λ i. refl) (λ i. and-right (isMeant t (bytesOf Serial parts)) _ (and-left _ _ (ap (λ (x : State). ifInventoried x true false) es)))
     (still t (met t) refl refl)
 locked-at code parts t ll true lockable Singulation em es ek =
-    untouched (opened code Lock parts) t (met t) (λ i. refl) (λ i. and-right (isMeant parts t) _ (and-left _ _ (ap (λ (x : State). ifInventoried x true false) es)))
+    untouched (opened code Lock parts) t (met t) (λ i. refl) (λ i. and-right (isMeant t (bytesOf Serial parts)) _ (and-left _ _ (ap (λ (x : State). ifInventoried x true false) es)))
     (still t (met t) refl refl)
 locked-at code parts t ll true false Inventoried em es ek =
     untouched (opened code Lock parts) t (marking Clear (met t)) (λ i. refl)
-    (λ i. and-right (isMeant parts t) _ (and-right (ifInventoried (t .state) true false) _ (and-left (isLockable (t .permission) (byteOf Address parts)) _ ek)))
+    (λ i. and-right (isMeant t (bytesOf Serial parts)) _ (and-right (ifInventoried (t .state) true false) _ (and-left (isLockable (t .permission) (byteOf Address parts)) _ ek)))
     (still t (marking Clear (met t)) refl refl)
 locked-at code parts t ll true true Inventoried em es ek =
     let a : ℕ = byteOf Address parts in
@@ -195,7 +200,8 @@ locked-at code parts t ll true true Inventoried em es ek =
 
 -- The law, command by command.
 pub accounted : (o : Opening) (coin : Bool) (t : Tag) → length (t .memory) ≡ 56 → length (t .locks) ≡ 56 → Accounted o t (stepped o coin t)
-accounted (refused n) coin t lm ll = untouched (refused n) t _ (λ i. refl) (λ i. refl) (either t (ltb n 3) _ _ (still t _ refl refl) (still t _ refl refl))
+accounted (refused n) coin t lm ll =
+    untouched (refused n) t (stepped (refused n) coin t) (λ i. refl) (λ i. refl) (not-opened coin t (ltb n 3))
 accounted (opened code Select parts) coin t lm ll = untouched (opened code Select parts) t _ (λ i. refl) (λ i. refl) (either t _ _ _ (still t _ refl refl) (still t _ refl refl))
 accounted (opened code UnselectNe parts) coin t lm ll = untouched (opened code UnselectNe parts) t _ (λ i. refl) (λ i. refl) (singulated t (t .state) _ (either t _ _ _ (still t _ refl refl) (still t _ refl refl)))
 accounted (opened code UnselectIdFlag parts) coin t lm ll = untouched (opened code UnselectIdFlag parts) t _ (λ i. refl) (λ i. refl) (singulated t (t .state) _ (either t _ _ _ (still t _ refl refl) (still t _ refl refl)))
@@ -208,8 +214,8 @@ accounted (opened code Read parts) coin t lm ll = untouched (opened code Read pa
 accounted (opened code ReadFlexible parts) coin t lm ll = untouched (opened code ReadFlexible parts) t _ (λ i. refl) (λ i. refl) (either t _ _ _ (still t _ refl refl) (still t _ refl refl))
 accounted (opened code Verify parts) coin t lm ll =
     untouched (opened code Verify parts) t _ (λ i. refl) (λ i. refl)
-    (either t (isMeant parts t) _ _ (either t (writeOk (met t .mark)) _ _ (still t (moved (met t)) refl refl) (still t (met t) refl refl)) (still t (met t) refl refl))
+    (either t (isMeant t (bytesOf Serial parts)) _ _ (either t (writeOk (met t .mark)) _ _ (still t (moved (met t)) refl refl) (still t (met t) refl refl)) (still t (met t) refl refl))
 accounted (opened code Qlock parts) coin t lm ll = untouched (opened code Qlock parts) t _ (λ i. refl) (λ i. refl) (either t _ _ _ (still t _ refl refl) (still t _ refl refl))
-accounted (opened code Write parts) coin t lm ll = wrote code parts t lm ll (isMeant parts t) (isWritable t (byteOf Address parts)) refl refl
+accounted (opened code Write parts) coin t lm ll = wrote code parts t lm ll (isMeant t (bytesOf Serial parts)) (isWritable t (byteOf Address parts)) refl refl
 accounted (opened code Lock parts) coin t lm ll =
-    locked-at code parts t ll (isMeant parts t) (isLockable (t .permission) (byteOf Address parts)) (t .state) refl refl refl
+    locked-at code parts t ll (isMeant t (bytesOf Serial parts)) (isLockable (t .permission) (byteOf Address parts)) (t .state) refl refl refl

@@ -9,9 +9,10 @@ use Rattle.std.specs.declared.option.Option.the-variants.{Some, None}
 use Rattle.crc.specs.Check.{moved, bitTaken, bits, byteTaken, sealed}
 use Rattle.crc.proofs.Moves.{residue}
 use Rattle.protocol.specs.Commands.{named, firstNamed}
-use Rattle.frame.specs.Openings.{Opening, refused, opened, opening, isSealed, front, parametersOf}
+use Rattle.frame.specs.Openings.{Opening, opening, isSealed, front, parametersOf}
 use Rattle.tag.specs.Cases.{Full-counters}
 use Rattle.tag.specs.declared.record.Tag.{Tag}
+use Rattle.tag.specs.Orders.{order}
 use Rattle.tag.specs.Replies.{sounding, Residual}
 use Rattle.tag.specs.Steps.{met, answered, replied}
 
@@ -24,6 +25,5 @@ unfolding sealed
 sounding-residual None = tt
 sounding-residual (Some bytes) = residue 0xffff bytes (omega arith)
 
-pub replied-residual : (o : Opening) (coin : Bool) (t : Tag) → Residual (replied o coin t)
-replied-residual (refused n) coin t = tt
-replied-residual (opened code c parts) coin t = sounding-residual (answered c parts coin (met t))
+pub replied-residual : (frame : Opening) (coin : Bool) (t : Tag) → Residual (replied frame coin t)
+replied-residual frame coin t = sounding-residual (answered (order frame) coin (met t))

@@ -6,14 +6,15 @@ use lib.Dec.{eqb, leb, ltb}
 use lib.ListN.{getD}
 use Rattle.protocol.specs.declared.command.Command.{Command}
 use Rattle.protocol.specs.declared.command.Command.the-variants.{Lock, Write}
-use Rattle.protocol.specs.declared.command.Parameter.the-variants.{Address, Mask, Data}
+use Rattle.protocol.specs.declared.command.Parameter.the-variants.{Serial, Address, Mask, Data}
 use Rattle.protocol.specs.Commands.{codeOf}
 use Rattle.frame.specs.Openings.{Opening, refused, opened}
 use Rattle.frame.specs.Parts.{bytesOf}
 use Rattle.tag.specs.declared.record.Tag.{Tag}
 use Rattle.tag.specs.Masks.{selects}
+use Rattle.tag.specs.Orders.{byteOf}
 use Rattle.tag.specs.Records.{byteAt, lockedAt}
-use Rattle.tag.specs.Steps.{byteOf, isMeant, isWritable, isLockable, ifInventoried}
+use Rattle.tag.specs.Steps.{isMeant, isWritable, isLockable, ifInventoried}
 
 abbrev pub is : Command → Command → Bool
 is c d = eqb (codeOf c) (codeOf d)
@@ -27,7 +28,7 @@ isReached a mask i = leb a i && (ltb i (a + 4) && selects mask (i - a))
 abbrev pub storesAt : Opening → Tag → ℕ → Bool
 storesAt (refused n) t i = false
 storesAt (opened code c parts) t i =
-    is c Write && (isMeant parts t && (isWritable t (byteOf Address parts) && isReached (byteOf Address parts) (byteOf Mask parts) i))
+    is c Write && (isMeant t (bytesOf Serial parts) && (isWritable t (byteOf Address parts) && isReached (byteOf Address parts) (byteOf Mask parts) i))
 
 -- The byte that a frame has for an address.
 abbrev pub broughtTo : Opening → ℕ → ℕ
@@ -39,7 +40,7 @@ broughtTo (opened code c parts) i = getD (bytesOf Data parts) (i - byteOf Addres
 abbrev pub locksAt : Opening → Tag → ℕ → Bool
 locksAt (refused n) t i = false
 locksAt (opened code c parts) t i =
-    is c Lock && (isMeant parts t && (ifInventoried (t .state) true false && (isLockable (t .permission) (byteOf Address parts) && eqb i (byteOf Address parts))))
+    is c Lock && (isMeant t (bytesOf Serial parts) && (ifInventoried (t .state) true false && (isLockable (t .permission) (byteOf Address parts) && eqb i (byteOf Address parts))))
 
 -- A tag before and after a frame: each byte and each lock is as it was, unless the frame stores or locks just there.
 pub record Accounted (frame : Opening) (before after : Tag) : Type 0 where

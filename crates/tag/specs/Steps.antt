@@ -3,21 +3,17 @@ use mathlib.Core.List.{List, [], _∷_}
 use mathlib.Core.Bool.{Bool, true, false, cond, not, _&&_, _||_}
 use Prim.Native.Nat.{ℕ, _+_, _-_, _%_}
 use lib.Dec.{eqb, ltb}
-use lib.ListN.{getD, set}
+use lib.ListN.{set}
 use Rattle.std.specs.shelf.Text.{sameBytes}
 use Rattle.std.specs.declared.option.Option.{Option}
 use Rattle.std.specs.declared.option.Option.the-variants.{Some, None}
-use Rattle.protocol.specs.declared.command.Command.{Command}
-use Rattle.protocol.specs.declared.command.Command.the-variants.{Select, UnselectNe, UnselectIdFlag, UnselectNoidFlag, Query, Scroll, Repeat, Reset, Read, Verify, Lock, Qlock, ReadFlexible, Write}
-use Rattle.protocol.specs.declared.command.Parameter.{Parameter}
-use Rattle.protocol.specs.declared.command.Parameter.the-variants.{Serial, Address, Mask, Word, Data, Length}
-use Rattle.frame.specs.Openings.{Opening, refused, opened}
-use Rattle.frame.specs.Parts.{Part, bytesOf}
+use Rattle.frame.specs.Openings.{Opening}
 use Rattle.tag.specs.declared.record.State.{State}
 use Rattle.tag.specs.declared.record.State.the-variants.{Ready, Singulation, Inventoried}
 use Rattle.tag.specs.declared.record.WriteMark.the-variants.{Clear, Fresh}
 use Rattle.tag.specs.declared.record.Tag.{Tag}
 use Rattle.tag.specs.Masks.{matches, stored}
+use Rattle.tag.specs.Orders.{Order, select, unselectNe, unselectIdFlag, unselectNoidFlag, query, scroll, again, reset, read, verify, write, lock, qlock, damaged, unknown, order}
 use Rattle.tag.specs.Records.{fallen, writeOk, lockedAt, bytesFrom, serialOf, inState, flagging, counting-to, marking, permitting, remembering, locking}
 use Rattle.tag.specs.Replies.{sounding}
 
@@ -91,62 +87,54 @@ locked permitted a t = cond (isLockable permitted a) (marking Fresh (locking (se
 abbrev pub lockStatus : Bool → Bool → ℕ
 lockStatus lockedByte ok = cond lockedByte (cond ok 0xff 0xfe) (cond ok 0x01 0x00)
 
-abbrev pub byteOf : Parameter → List Part → ℕ
-byteOf p parts = getD (bytesOf p parts) 0 0
+-- Whether a tag has a serial number.
+abbrev pub isMeant : Tag → List ℕ → Bool
+isMeant t serial = sameBytes (serialOf t) serial
 
--- Whether the masked bytes are those of the frame.
-abbrev pub isMatching : List Part → Tag → Bool
-isMatching parts t = matches (t .memory) (byteOf Address parts) (byteOf Mask parts) (bytesOf Word parts)
-
--- Whether a tag has the frame's serial number.
-abbrev pub isMeant : List Part → Tag → Bool
-isMeant parts t = sameBytes (serialOf t) (bytesOf Serial parts)
-
--- What a command does to a tag that its frame has met, given what was permitted before.
-abbrev pub obeyed : Command → List Part → Bool → Option ℕ → Tag → Tag
-obeyed Select parts coin permitted t = cond (isChosen (t .state) (isMatching parts t)) (joined t) t
-obeyed UnselectNe parts coin permitted t = ifSingulated (t .state) (unselected (not (isMatching parts t)) t) t
-obeyed UnselectIdFlag parts coin permitted t = ifSingulated (t .state) (unselected (t .identified) t) t
-obeyed UnselectNoidFlag parts coin permitted t = ifSingulated (t .state) (unselected (not (t .identified)) t) t
-obeyed Query parts coin permitted t = ifSingulated (t .state) (counting-to (drawn coin (t .counter)) t) t
-obeyed Scroll parts coin permitted t = ifSingulated (t .state) (counting-to (t .counter - 1) t) t
-obeyed Repeat parts coin permitted t = t
-obeyed Reset parts coin permitted t = inState Ready (flagging false t)
-obeyed Read parts coin permitted t = cond (isMeant parts t) (permitting (Some (byteOf Address parts)) (moved t)) t
-obeyed ReadFlexible parts coin permitted t = cond (isMeant parts t) (permitting (Some (byteOf Address parts)) (moved t)) t
-obeyed Verify parts coin permitted t = cond (isMeant parts t) (verified t) t
-obeyed Write parts coin permitted t = cond (isMeant parts t) (written (byteOf Address parts) (byteOf Mask parts) (bytesOf Data parts) t) t
-obeyed Lock parts coin permitted t = cond (isMeant parts t) (ifInventoried (t .state) (locked permitted (byteOf Address parts) t) t) t
-obeyed Qlock parts coin permitted t = cond (isMeant parts t) (permitting (Some (byteOf Address parts)) (moved t)) t
+-- What an order does to a tag that its frame has met, given what was permitted before.
+abbrev pub obeyed : Order → Bool → Option ℕ → Tag → Tag
+obeyed (select a mask word) coin permitted t = cond (isChosen (t .state) (matches (t .memory) a mask word)) (joined t) t
+obeyed (unselectNe a mask word) coin permitted t = ifSingulated (t .state) (unselected (not (matches (t .memory) a mask word)) t) t
+obeyed unselectIdFlag coin permitted t = ifSingulated (t .state) (unselected (t .identified) t) t
+obeyed unselectNoidFlag coin permitted t = ifSingulated (t .state) (unselected (not (t .identified)) t) t
+obeyed query coin permitted t = ifSingulated (t .state) (counting-to (drawn coin (t .counter)) t) t
+obeyed scroll coin permitted t = ifSingulated (t .state) (counting-to (t .counter - 1) t) t
+obeyed again coin permitted t = t
+obeyed reset coin permitted t = inState Ready (flagging false t)
+obeyed (read serial a n) coin permitted t = cond (isMeant t serial) (permitting (Some a) (moved t)) t
+obeyed (verify serial a) coin permitted t = cond (isMeant t serial) (verified t) t
+obeyed (write serial a mask bytes) coin permitted t = cond (isMeant t serial) (written a mask bytes t) t
+obeyed (lock serial a) coin permitted t = cond (isMeant t serial) (ifInventoried (t .state) (locked permitted a t) t) t
+obeyed (qlock serial a) coin permitted t = cond (isMeant t serial) (permitting (Some a) (moved t)) t
+obeyed damaged coin permitted t = inState Ready t
+obeyed unknown coin permitted t = t
 
 -- The serial number, if it is a tag's turn: its counter is 0.
 abbrev pub inTurn : ℕ → Tag → Option (List ℕ)
 inTurn counter t = cond (eqb counter 0) (Some (serialOf t)) None
 
--- The data that a tag, met by the frame, replies to a command, if it does.
-abbrev pub answered : Command → List Part → Bool → Tag → Option (List ℕ)
-answered Select parts coin t = cond (isChosen (t .state) (isMatching parts t)) (Some (serialOf t)) None
-answered UnselectNe parts coin t = ifSingulated (t .state) (staying (not (isMatching parts t)) t) None
-answered UnselectIdFlag parts coin t = ifSingulated (t .state) (staying (t .identified) t) None
-answered UnselectNoidFlag parts coin t = ifSingulated (t .state) (staying (not (t .identified)) t) None
-answered Query parts coin t = ifSingulated (t .state) (inTurn (drawn coin (t .counter)) t) None
-answered Scroll parts coin t = ifSingulated (t .state) (inTurn (t .counter - 1) t) None
-answered Repeat parts coin t = ifSingulated (t .state) (inTurn (t .counter) t) None
-answered Reset parts coin t = None
-answered Read parts coin t = cond (isMeant parts t) (Some (bytesFrom (t .memory) (byteOf Address parts) 8)) None
-answered ReadFlexible parts coin t = cond (isMeant parts t) (Some (bytesFrom (t .memory) (byteOf Address parts) (byteOf Length parts + 1))) None
-answered Verify parts coin t = cond (isMeant parts t) (cond (writeOk (t .mark)) (Some (bytesFrom (t .memory) (byteOf Address parts) 4)) None) None
-answered Write parts coin t = cond (isMeant parts t) (Some (cond (isWritable t (byteOf Address parts)) 0x00 0xff ∷ [])) None
-answered Lock parts coin t = cond (isMeant parts t) (ifInventoried (t .state) (Some (0x00 ∷ [])) None) None
-answered Qlock parts coin t =
-    cond (isMeant parts t) (Some (lockStatus (lockedAt t (byteOf Address parts)) (writeOk (t .mark)) ∷ [])) None
+-- The data that a tag, met by the frame, replies to an order, if it does.
+abbrev pub answered : Order → Bool → Tag → Option (List ℕ)
+answered (select a mask word) coin t = cond (isChosen (t .state) (matches (t .memory) a mask word)) (Some (serialOf t)) None
+answered (unselectNe a mask word) coin t = ifSingulated (t .state) (staying (not (matches (t .memory) a mask word)) t) None
+answered unselectIdFlag coin t = ifSingulated (t .state) (staying (t .identified) t) None
+answered unselectNoidFlag coin t = ifSingulated (t .state) (staying (not (t .identified)) t) None
+answered query coin t = ifSingulated (t .state) (inTurn (drawn coin (t .counter)) t) None
+answered scroll coin t = ifSingulated (t .state) (inTurn (t .counter - 1) t) None
+answered again coin t = ifSingulated (t .state) (inTurn (t .counter) t) None
+answered reset coin t = None
+answered (read serial a n) coin t = cond (isMeant t serial) (Some (bytesFrom (t .memory) a n)) None
+answered (verify serial a) coin t = cond (isMeant t serial) (cond (writeOk (t .mark)) (Some (bytesFrom (t .memory) a 4)) None) None
+answered (write serial a mask bytes) coin t = cond (isMeant t serial) (Some (cond (isWritable t a) 0x00 0xff ∷ [])) None
+answered (lock serial a) coin t = cond (isMeant t serial) (ifInventoried (t .state) (Some (0x00 ∷ [])) None) None
+answered (qlock serial a) coin t = cond (isMeant t serial) (Some (lockStatus (lockedAt t a) (writeOk (t .mark)) ∷ [])) None
+answered damaged coin t = None
+answered unknown coin t = None
 
--- A tag after a frame, by what opening gave. One that fails by 1 or 2 makes it READY, by 3 or 4 does nothing more.
+-- A tag after a frame, by what opening gave.
 abbrev pub stepped : Opening → Bool → Tag → Tag
-stepped (refused n) coin t = cond (ltb n 3) (inState Ready (met t)) (met t)
-stepped (opened code c parts) coin t = obeyed c parts coin (t .permission) (met t)
+stepped frame coin t = obeyed (order frame) coin (t .permission) (met t)
 
 -- Its reply with the check value, or none.
 abbrev pub replied : Opening → Bool → Tag → Option (List ℕ)
-replied (refused n) coin t = None
-replied (opened code c parts) coin t = sounding (answered c parts coin (met t))
+replied frame coin t = sounding (answered (order frame) coin (met t))

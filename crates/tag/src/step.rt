@@ -3,13 +3,15 @@ ghost use mathlib.Core.Path.{_≡_};
 ghost use mathlib.Core.Bool.{cond, false};
 ghost use Prim.Native.Nat.{_+_, _-_};
 ghost use Rattle.std.specs.declared.option.Option.the-variants.{Some, None};
-ghost use Rattle.frame.specs.Requests.{commandOf, partsOf, comparisonParts, targetParts};
+ghost use Rattle.frame.specs.Requests.{commandOf, partsOf};
 ghost use Rattle.frame.specs.Openings.{opening, seen};
 ghost use Rattle.tag.specs.Cases.{Full-counters};
+ghost use Rattle.tag.specs.Masks.{matches};
 ghost use Rattle.tag.specs.Memories.{Accounted};
+ghost use Rattle.tag.specs.Orders.{asked};
 ghost use Rattle.tag.specs.Records.{writeOk, bytesFrom, lockedAt, inState, flagging, counting-to, permitting};
 ghost use Rattle.tag.specs.Replies.{dataIn, sounding, Residual};
-ghost use Rattle.tag.specs.Steps.{joined, obeyed, answered, stepped, replied, unselected, staying, verified, drawn, inTurn, isMatching, isMeant, moved, isWritable, written, locked, lockStatus};
+ghost use Rattle.tag.specs.Steps.{joined, obeyed, answered, stepped, replied, unselected, staying, verified, drawn, inTurn, isMeant, moved, isWritable, written, locked, lockStatus};
 ghost use Rattle.tag.specs.declared.record.State.the-variants.{Ready};
 use crate::record::SERIAL;
 use crate::record::SIZE;
@@ -73,8 +75,8 @@ impl Tag {
 
     // Obeys a command, if it concerns a tag in this state.
     fn obey(&mut self, request: Request<'_>, coin: bool, permitted: Option<u8>) -> Option<Reply>
-        ensures tag { λ _. ⌜ now (self .exit) ≡ obeyed (commandOf (request .entry)) (partsOf (request .entry)) coin permitted (now (self .entry)) ⌝ }
-        ensures reply { λ r. ⌜ dataIn (now (self .exit)) r ≡ answered (commandOf (request .entry)) (partsOf (request .entry)) coin (now (self .entry)) ⌝ }
+        ensures tag { λ _. ⌜ now (self .exit) ≡ obeyed (asked (commandOf (request .entry)) (partsOf (request .entry))) coin permitted (now (self .entry)) ⌝ }
+        ensures reply { λ r. ⌜ dataIn (now (self .exit)) r ≡ answered (asked (commandOf (request .entry)) (partsOf (request .entry))) coin (now (self .entry)) ⌝ }
     {
         match (self.state, request) {
             (State::Ready, Request::Select(wanted)) if self.is_matching(wanted) => self.join(),
@@ -113,14 +115,14 @@ impl Tag {
 
     // Whether the masked bytes are those of the frame.
     fn is_matching(&self, wanted: Comparison<'_>) -> bool
-        ensures { λ r. ⌜ r ≡ isMatching (comparisonParts (wanted .entry)) (now (self .entry)) ⌝ }
+        ensures { λ r. ⌜ r ≡ matches (now (self .entry) .memory) (now (wanted .entry .address .byte)) (now (wanted .entry .mask .byte)) (now (wanted .entry .word .bytes)) ⌝ }
     {
         self.matches(*wanted.address.byte, *wanted.mask.byte, wanted.word.bytes)
     }
 
     // Whether the tag has the frame's serial number.
     fn is_meant(&self, target: Target<'_>) -> bool
-        ensures { λ r. ⌜ r ≡ isMeant (targetParts (target .entry)) (now (self .entry)) ⌝ }
+        ensures { λ r. ⌜ r ≡ isMeant (now (self .entry)) (now (target .entry .serial .bytes)) ⌝ }
     {
         &self.memory[..SERIAL] == target.serial.bytes
     }
