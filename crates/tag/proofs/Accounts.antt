@@ -19,14 +19,14 @@ use Rattle.protocol.specs.declared.command.Command.the-variants.{Select, Unsele
 use Rattle.protocol.specs.declared.command.Parameter.the-variants.{Serial, Address, Mask, Data}
 use Rattle.frame.specs.Openings.{Opening, refused, opened}
 use Rattle.frame.specs.Parts.{Part, bytesOf}
-use Rattle.tag.specs.declared.record.State.{State}
-use Rattle.tag.specs.declared.record.State.the-variants.{Ready, Singulation, Inventoried}
-use Rattle.tag.specs.declared.record.WriteMark.the-variants.{Clear, Fresh}
-use Rattle.tag.specs.declared.record.Tag.{Tag}
-use Rattle.tag.specs.Masks.{selects, storedAt, stored}
+use Rattle.record.specs.declared.State.{State}
+use Rattle.record.specs.declared.State.the-variants.{Ready, Singulation, Inventoried}
+use Rattle.record.specs.declared.WriteMark.the-variants.{Clear, Fresh}
+use Rattle.record.specs.declared.Tag.{Tag}
+use Rattle.record.specs.Masks.{selects, storedAt, stored}
 use Rattle.tag.specs.Memories.{isReached, storesAt, locksAt, Accounted}
 use Rattle.tag.specs.Orders.{damaged, unknown, byteOf}
-use Rattle.tag.specs.Records.{lockedAt, writeOk, inState, permitting, marking, remembering, locking}
+use Rattle.record.specs.Records.{lockedAt, writeOk, inState, permitting, marking, remembering, locking}
 use Rattle.tag.specs.Steps.{met, moved, obeyed, stepped, ifSingulated, ifInventoried, isMeant, isWritable, isLockable}
 
 -- Two records with the same memory and the same locks.

@@ -1,4 +1,2 @@
-pub mod Places
-pub mod Bytes
 pub mod Accounts
 pub mod Limits

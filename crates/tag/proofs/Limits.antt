@@ -11,9 +11,9 @@ use Rattle.crc.proofs.Moves.{residue}
 use Rattle.protocol.specs.Commands.{named, firstNamed}
 use Rattle.frame.specs.Openings.{Opening, opening, isSealed, front, parametersOf}
 use Rattle.tag.specs.Cases.{Full-counters}
-use Rattle.tag.specs.declared.record.Tag.{Tag}
+use Rattle.record.specs.declared.Tag.{Tag}
 use Rattle.tag.specs.Orders.{order}
-use Rattle.tag.specs.Replies.{sounding, Residual}
+use Rattle.reply.specs.Replies.{sounding, Residual}
 use Rattle.tag.specs.Steps.{met, answered, replied}
 
 pub full-counters : Full-counters

@@ -5,8 +5,8 @@ use mathlib.Core.Path.{_≡_}
 use Prim.Native.Nat.{ℕ}
 use Rattle.std.specs.shelf.Lists.{All}
 use Rattle.frame.specs.Openings.{opening}
-use Rattle.tag.specs.declared.record.State.the-variants.{Singulation}
-use Rattle.tag.specs.declared.record.Tag.{Tag}
+use Rattle.record.specs.declared.State.the-variants.{Singulation}
+use Rattle.record.specs.declared.Tag.{Tag}
 use Rattle.tag.specs.Steps.{stepped}
 
 -- What QUERY makes of some counters of a tag in SINGULATION, whatever its coin.

@@ -10,10 +10,10 @@ use Rattle.protocol.specs.declared.command.Parameter.the-variants.{Serial, Addr
 use Rattle.protocol.specs.Commands.{codeOf}
 use Rattle.frame.specs.Openings.{Opening, refused, opened}
 use Rattle.frame.specs.Parts.{bytesOf}
-use Rattle.tag.specs.declared.record.Tag.{Tag}
-use Rattle.tag.specs.Masks.{selects}
+use Rattle.record.specs.declared.Tag.{Tag}
+use Rattle.record.specs.Masks.{selects}
 use Rattle.tag.specs.Orders.{byteOf}
-use Rattle.tag.specs.Records.{byteAt, lockedAt}
+use Rattle.record.specs.Records.{byteAt, lockedAt}
 use Rattle.tag.specs.Steps.{isMeant, isWritable, isLockable, ifInventoried}
 
 abbrev pub is : Command → Command → Bool

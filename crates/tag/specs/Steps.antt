@@ -8,14 +8,14 @@ use Rattle.std.specs.shelf.Text.{sameBytes}
 use Rattle.std.specs.declared.option.Option.{Option}
 use Rattle.std.specs.declared.option.Option.the-variants.{Some, None}
 use Rattle.frame.specs.Openings.{Opening}
-use Rattle.tag.specs.declared.record.State.{State}
-use Rattle.tag.specs.declared.record.State.the-variants.{Ready, Singulation, Inventoried}
-use Rattle.tag.specs.declared.record.WriteMark.the-variants.{Clear, Fresh}
-use Rattle.tag.specs.declared.record.Tag.{Tag}
-use Rattle.tag.specs.Masks.{matches, stored}
+use Rattle.record.specs.declared.State.{State}
+use Rattle.record.specs.declared.State.the-variants.{Ready, Singulation, Inventoried}
+use Rattle.record.specs.declared.WriteMark.the-variants.{Clear, Fresh}
+use Rattle.record.specs.declared.Tag.{Tag}
+use Rattle.record.specs.Masks.{matches, stored}
 use Rattle.tag.specs.Orders.{Order, select, unselectNe, unselectIdFlag, unselectNoidFlag, query, scroll, again, reset, read, verify, write, lock, qlock, damaged, unknown, order}
-use Rattle.tag.specs.Records.{fallen, writeOk, lockedAt, bytesFrom, serialOf, inState, flagging, counting-to, marking, permitting, remembering, locking}
-use Rattle.tag.specs.Replies.{sounding}
+use Rattle.record.specs.Records.{fallen, writeOk, lockedAt, bytesFrom, serialOf, inState, flagging, counting-to, marking, permitting, remembering, locking}
+use Rattle.reply.specs.Replies.{sounding}
 
 -- What every frame does first to a tag. The old permission serves this frame only.
 abbrev pub met : Tag → Tag

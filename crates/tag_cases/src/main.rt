@@ -15,45 +15,71 @@ use crate::reading::read_state;
 use crate::showing::Answer;
 use crate::showing::AnswerDisplay;
 use frame::opening::open;
+use record::SIZE;
+use record::Tag;
+use reply::Reply;
 use std::alloc::Global;
 use std::error::AnyError;
 use std::io::BufRead;
 use std::io::BufReader;
-use tag::record::SIZE;
-use tag::record::Tag;
-use tag::reply::Reply;
+use tag::step;
 
 // The longest reply: 256 bytes of memory and their check value.
 const LONGEST: usize = 258;
 
 // Does to the tag what a question says, and tells its reply if it gives one.
 fn put(heap: Global, tag: &mut Tag, question: &str) -> Result<Option<Reply>, AnyError> {
-    let words = question.split_whitespace().collect::<Vec<&str>>(heap)?;
-    match words.as_slice() {
-        ["new", memory] => *tag = Tag::new(read_memory(heap, memory)?),
-        ["locks", locks] => tag.locks = read_locks(heap, locks)?,
-        ["set", state, flag, counter, mark, permission] => {
-            tag.state = read_state(state)?;
-            tag.identified = read_bit(flag)?;
-            tag.counter = read_byte(counter)?;
-            tag.mark = read_mark(mark)?;
-            tag.permission = read_permission(permission)?;
-        }
-        ["step", coin, frame] => {
-            let bytes = read_bytes(heap, frame)?;
-            return Ok(tag.step(&open(bytes.as_slice()), read_bit(coin)?));
-        }
-        ["gap", microseconds] => tag.pass(microseconds.parse::<u32>()?),
+    let Some((verb, rest)) = question.split_once(' ') else {
+        return Err("no question".into());
+    };
+    match verb {
+        "new" => *tag = Tag::new(read_memory(heap, rest)?),
+        "locks" => tag.locks = read_locks(heap, rest)?,
+        "set" => set(tag, rest)?,
+        "step" => return send(heap, tag, rest),
+        "gap" => tag.pass(rest.parse::<u32>()?),
         _ => return Err("no question".into()),
     }
     Ok(None)
+}
+
+fn set(tag: &mut Tag, rest: &str) -> Result<(), AnyError> {
+    let mut words = rest.split_whitespace();
+    tag.state = read_state(word(words.next())?)?;
+    tag.identified = read_bit(word(words.next())?)?;
+    tag.counter = read_byte(word(words.next())?)?;
+    tag.mark = read_mark(word(words.next())?)?;
+    tag.permission = read_permission(word(words.next())?)?;
+    no_word(words.next())
+}
+
+fn send(heap: Global, tag: &mut Tag, rest: &str) -> Result<Option<Reply>, AnyError> {
+    let mut words = rest.split_whitespace();
+    let coin = read_bit(word(words.next())?)?;
+    let frame = read_bytes(heap, word(words.next())?)?;
+    no_word(words.next())?;
+    Ok(step(tag, &open(frame.as_slice()), coin))
+}
+
+fn word(next: Option<&str>) -> Result<&str, AnyError> {
+    match next {
+        Some(text) => Ok(text),
+        None => Err("a word is missing".into()),
+    }
+}
+
+fn no_word(next: Option<&str>) -> Result<(), AnyError> {
+    match next {
+        Some(_) => Err("a word too many".into()),
+        None => Ok(()),
+    }
 }
 
 fn answer(rt: &LibcRuntime, tag: &mut Tag, question: &str) -> Result<(), AnyError> {
     let before = *tag;
     let mut buffer = [0u8; LONGEST];
     let length = match put(rt.alloc(), tag, question)? {
-        Some(reply) => tag.write_reply(reply, &mut buffer),
+        Some(reply) => reply.write(tag, &mut buffer),
         None => Ok(0),
     };
     let Ok(length) = length else {

@@ -1,11 +1,11 @@
 // The words of a question, read.
 ghost use Prim.Native.Nat.{_<_};
 ghost use Rattle.std.specs.Vec.{made};
+use record::SIZE;
+use record::State;
+use record::WriteMark;
 use std::alloc::Global;
 use std::error::AnyError;
-use tag::record::SIZE;
-use tag::record::State;
-use tag::record::WriteMark;
 
 // A lock bit for each of a tag's bytes.
 const LOCK_BYTES: usize = SIZE / 8;

@@ -1,7 +1,7 @@
 // Answers, as they are written.
+use record::Tag;
+use record::names::StateDisplay;
 use std::fmt;
-use tag::names::StateDisplay;
-use tag::record::Tag;
 
 // A tag's record, where it is no longer what it was, and its reply.
 #[derive(Drop)]

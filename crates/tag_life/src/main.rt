@@ -3,13 +3,14 @@ use frame::making::make;
 use protocol::command::COMMANDS;
 use protocol::command::Command;
 use protocol::command::CommandPartialEq;
+use record::SIZE;
+use record::Tag;
+use reply::Reply;
 use std::alloc::AllocError;
 use std::alloc::Global;
 use std::error::AnyError;
 use std::fmt;
-use tag::record::SIZE;
-use tag::record::Tag;
-use tag::reply::Reply;
+use tag::hear;
 
 const SERIAL: [u8; 8] = [0xef, 0x04, 0x02, 0x00, 0x00, 0x00, 0x00, 0x01];
 
@@ -41,7 +42,7 @@ const OWN: [u8; 10] = [0x00, 0xc0, 0xef, 0x04, 0x00, 0x00, 0x00, 0x00, 0x00, 0x0
 // All tags whose memory begins with EF 05.
 const FOREIGN: [u8; 10] = [0x00, 0xc0, 0xef, 0x05, 0x00, 0x00, 0x00, 0x00, 0x00, 0x00];
 
-const LIFE: [Event; 27] = [
+const LIFE: [Event; 28] = [
     Event::ToAll(Command::Select, &OWN),
     Event::ToAll(Command::Query, &[]),
     Event::ToAll(Command::Scroll, &[]),
@@ -58,6 +59,7 @@ const LIFE: [Event; 27] = [
     Event::ToTag(Command::Read, &[0x37]),
     Event::ToTag(Command::ReadFlexible, &[0x34, 0x03]),
     Event::Damaged(Command::Scroll),
+    Event::ToAll(Command::Select, &OWN),
     Event::Gap(249),
     Event::Gap(250),
     Event::Gap(3_999_999),
@@ -152,7 +154,7 @@ impl Player<'_> {
     }
 
     fn say(&mut self, name: &str, bytes: &[u8]) -> Result<(), AnyError> {
-        let reply = self.tag.hear(bytes, COIN);
+        let reply = hear(&mut self.tag, bytes, COIN);
         let frame = Hex { bytes };
         let sent = format!(self.rt.alloc(), "{name:<18}  {frame}")?;
         self.print(sent.as_str(), reply)
@@ -182,7 +184,7 @@ impl Player<'_> {
     fn written(&self, reply: Option<Reply>) -> Result<String, AnyError> {
         let mut buffer = [0u8; LONGEST_REPLY];
         let length = match reply {
-            Some(reply) => self.tag.write_reply(reply, &mut buffer),
+            Some(reply) => reply.write(&self.tag, &mut buffer),
             None => Ok(0),
         };
         let Ok(length) = length else {

@@ -2,10 +2,11 @@
 use frame::making::make;
 use frame::writer::Writer;
 use protocol::refusal::RefusalDebug;
+use record::SIZE;
+use record::State;
+use record::Tag;
 use std::test::*;
-use tag::record::SIZE;
-use tag::record::State;
-use tag::record::Tag;
+use tag::hear;
 
 pub const SERIAL: [u8; 8] = [0xef, 0x04, 0x02, 0x00, 0x00, 0x00, 0x00, 0x01];
 
@@ -84,10 +85,10 @@ pub fn parts(tag: &Tag) -> (State, bool, u8, u8, Option<u8>) {
 }
 
 // Steps the tag on the bytes of a frame, and checks what it replies.
-pub fn hear(tag: &mut Tag, frame: &[u8], coin: bool, expected: &[u8]) -> Result<(), Fail> {
+pub fn tell(tag: &mut Tag, frame: &[u8], coin: bool, expected: &[u8]) -> Result<(), Fail> {
     let mut buffer = [0u8; 258];
-    let length = match tag.hear(frame, coin) {
-        Some(reply) => tag.write_reply(reply, &mut buffer)?,
+    let length = match hear(tag, frame, coin) {
+        Some(reply) => reply.write(tag, &mut buffer)?,
         None => 0,
     };
     check_eq(front(&buffer, length)?, expected)
@@ -97,7 +98,7 @@ pub fn hear(tag: &mut Tag, frame: &[u8], coin: bool, expected: &[u8]) -> Result<
 pub fn send(tag: &mut Tag, code: u8, parameters: &[u8], expected: &[u8]) -> Result<(), Fail> {
     let mut buffer = [0u8; 17];
     let length = make(code, parameters, &mut buffer)?;
-    hear(tag, front(&buffer, length)?, false, expected)
+    tell(tag, front(&buffer, length)?, false, expected)
 }
 
 // The same with the tag's serial number in front of the parameters.

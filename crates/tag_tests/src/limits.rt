@@ -1,11 +1,11 @@
 // The ends of the counter, of comparisons, of marks and of permissions.
 use crate::bench::*;
+use record::State;
+use record::StateDebug;
+use record::StatePartialEq;
+use record::Tag;
+use record::WriteMark;
 use std::test::*;
-use tag::record::State;
-use tag::record::StateDebug;
-use tag::record::StatePartialEq;
-use tag::record::Tag;
-use tag::record::WriteMark;
 
 fn singulated(counter: u8) -> Tag {
     let mut tag = new_tag();
@@ -17,22 +17,22 @@ fn singulated(counter: u8) -> Tag {
 #[test]
 fn the_counter_rises_to_ff() -> Result<(), Fail> {
     let mut tag = singulated(0xfe);
-    hear(&mut tag, &QUERY, false, &SILENCE)?;
+    tell(&mut tag, &QUERY, false, &SILENCE)?;
     check_eq(tag.counter, 0xff)?;
-    hear(&mut tag, &QUERY, true, &SILENCE)?;
+    tell(&mut tag, &QUERY, true, &SILENCE)?;
     check_eq(tag.counter, 0xff)?;
-    hear(&mut tag, &SCROLL, true, &SILENCE)?;
+    tell(&mut tag, &SCROLL, true, &SILENCE)?;
     check_eq(tag.counter, 0xfe)
 }
 
 #[test]
 fn the_counter_falls_to_00() -> Result<(), Fail> {
     let mut tag = singulated(0x02);
-    hear(&mut tag, &SCROLL, false, &SILENCE)?;
+    tell(&mut tag, &SCROLL, false, &SILENCE)?;
     check_eq(tag.counter, 0x01)?;
-    hear(&mut tag, &SCROLL, false, &REPLY_SERIAL)?;
+    tell(&mut tag, &SCROLL, false, &REPLY_SERIAL)?;
     check_eq(tag.counter, 0x00)?;
-    hear(&mut tag, &SCROLL, false, &REPLY_SERIAL)?;
+    tell(&mut tag, &SCROLL, false, &REPLY_SERIAL)?;
     check_eq(tag.counter, 0x00)
 }
 
@@ -40,11 +40,11 @@ fn the_counter_falls_to_00() -> Result<(), Fail> {
 #[test]
 fn the_coin() -> Result<(), Fail> {
     let mut tag = singulated(0x00);
-    hear(&mut tag, &QUERY, false, &REPLY_SERIAL)?;
+    tell(&mut tag, &QUERY, false, &REPLY_SERIAL)?;
     check_eq(tag.counter, 0x00)?;
-    hear(&mut tag, &QUERY, true, &SILENCE)?;
+    tell(&mut tag, &QUERY, true, &SILENCE)?;
     check_eq(tag.counter, 0x01)?;
-    hear(&mut tag, &QUERY, false, &SILENCE)?;
+    tell(&mut tag, &QUERY, false, &SILENCE)?;
     check_eq(tag.counter, 0x02)
 }
 
@@ -134,7 +134,7 @@ fn a_permission_serves_one_frame() -> Result<(), Fail> {
     let mut tag = new_tag();
     call(&mut tag, QLOCK, &[0x08], &REPLY_00)?;
     check_eq(tag.permission, Some(0x08))?;
-    hear(&mut tag, &SCROLL, false, &SILENCE)?;
+    tell(&mut tag, &SCROLL, false, &SILENCE)?;
     check_eq(tag.permission, None)?;
     call(&mut tag, LOCK, &[0x08], &REPLY_00)?;
     check(!tag.is_locked(0x08))

@@ -1,10 +1,10 @@
 // The whole life of a tag, with its reply and its record after each event.
 use crate::bench::*;
+use record::State;
+use record::StateDebug;
+use record::StatePartialEq;
+use record::Tag;
 use std::test::*;
-use tag::record::State;
-use tag::record::StateDebug;
-use tag::record::StatePartialEq;
-use tag::record::Tag;
 
 const WRITTEN: [u8; 4] = [0xde, 0xad, 0xbe, 0xef];
 
@@ -21,13 +21,13 @@ fn from_select_to_reset() -> Result<(), Fail> {
 fn is_found(tag: &mut Tag) -> Result<(), Fail> {
     send(tag, SELECT, &OWN, &REPLY_SERIAL)?;
     check_eq(parts(tag), (State::Singulation, false, 0x00, 0, None))?;
-    hear(tag, &QUERY, true, &SILENCE)?;
+    tell(tag, &QUERY, true, &SILENCE)?;
     check_eq(parts(tag), (State::Singulation, false, 0x01, 0, None))?;
-    hear(tag, &REPEAT, true, &SILENCE)?;
+    tell(tag, &REPEAT, true, &SILENCE)?;
     check_eq(parts(tag), (State::Singulation, false, 0x01, 0, None))?;
-    hear(tag, &SCROLL, true, &REPLY_SERIAL)?;
+    tell(tag, &SCROLL, true, &REPLY_SERIAL)?;
     check_eq(parts(tag), (State::Singulation, false, 0x00, 0, None))?;
-    hear(tag, &REPEAT, true, &REPLY_SERIAL)?;
+    tell(tag, &REPEAT, true, &REPLY_SERIAL)?;
     check_eq(parts(tag), (State::Singulation, false, 0x00, 0, None))?;
     call(tag, READ, &[0x00], &REPLY_SERIAL)?;
     check_eq(parts(tag), (State::Inventoried, true, 0x00, 0, Some(0x00)))?;
@@ -63,7 +63,7 @@ fn is_left_alone(tag: &mut Tag) -> Result<(), Fail> {
     tag.pass(250);
     check_eq(parts(tag), (State::Ready, true, 0x00, 0, None))?;
     send(tag, SELECT, &OWN, &REPLY_SERIAL)?;
-    hear(tag, &QUERY, true, &SILENCE)?;
+    tell(tag, &QUERY, true, &SILENCE)?;
     check_eq(parts(tag), (State::Singulation, true, 0x01, 0, None))?;
     tag.pass(3_999_999);
     check_eq(parts(tag), (State::Ready, true, 0x00, 0, None))?;
@@ -80,6 +80,6 @@ fn is_unselected(tag: &mut Tag) -> Result<(), Fail> {
     check_eq(parts(tag), (State::Ready, false, 0x00, 0, None))?;
     call(tag, QLOCK, &[0x02], &REPLY_00)?;
     check_eq(parts(tag), (State::Inventoried, true, 0x00, 0, Some(0x02)))?;
-    hear(tag, &RESET, true, &SILENCE)?;
+    tell(tag, &RESET, true, &SILENCE)?;
     check_eq(parts(tag), (State::Ready, false, 0x00, 0, None))
 }

@@ -1,9 +1,9 @@
 // Reading, writing and locking up to the last byte, and past it.
 use crate::bench::*;
+use record::SIZE;
+use record::Tag;
+use record::WriteMark;
 use std::test::*;
-use tag::record::SIZE;
-use tag::record::Tag;
-use tag::record::WriteMark;
 
 #[test]
 fn the_last_four_bytes_are_writable() -> Result<(), Fail> {

@@ -1,11 +1,11 @@
 // Rules that are easily read otherwise.
 use crate::bench::*;
+use record::State;
+use record::StateDebug;
+use record::StatePartialEq;
+use record::Tag;
+use record::WriteMark;
 use std::test::*;
-use tag::record::State;
-use tag::record::StateDebug;
-use tag::record::StatePartialEq;
-use tag::record::Tag;
-use tag::record::WriteMark;
 
 // One locked byte of the four is enough, though the mask leaves it out.
 #[test]
@@ -71,7 +71,7 @@ fn busy(state: State) -> Tag {
 fn damage_spares_the_flag() -> Result<(), Fail> {
     for state in [State::Ready, State::Singulation, State::Inventoried] {
         let mut tag = busy(state);
-        hear(&mut tag, &[0x09, 0x8f, 0x27], true, &SILENCE)?;
+        tell(&mut tag, &[0x09, 0x8f, 0x27], true, &SILENCE)?;
         check_eq(parts(&tag), (State::Ready, true, 0x05, 1, None))?;
     }
     Ok(())
@@ -81,9 +81,9 @@ fn damage_spares_the_flag() -> Result<(), Fail> {
 fn a_stub_spares_the_flag() -> Result<(), Fail> {
     for state in [State::Ready, State::Singulation, State::Inventoried] {
         let mut tag = busy(state);
-        hear(&mut tag, &[0x09, 0x8f], true, &SILENCE)?;
+        tell(&mut tag, &[0x09, 0x8f], true, &SILENCE)?;
         check_eq(parts(&tag), (State::Ready, true, 0x05, 1, None))?;
-        hear(&mut tag, &[], true, &SILENCE)?;
+        tell(&mut tag, &[], true, &SILENCE)?;
         check_eq(parts(&tag), (State::Ready, true, 0x05, 0, None))?;
     }
     Ok(())
@@ -95,10 +95,10 @@ fn strange_frames_spare_the_state() -> Result<(), Fail> {
     for state in [State::Ready, State::Singulation, State::Inventoried] {
         let mut tag = busy(state);
         let memory = tag.memory;
-        hear(&mut tag, &[0x02, 0x3e, 0x4d], true, &SILENCE)?;
+        tell(&mut tag, &[0x02, 0x3e, 0x4d], true, &SILENCE)?;
         check_eq(parts(&tag), (state, true, 0x05, 1, None))?;
         tag.permission = Some(0x08);
-        hear(&mut tag, &[0x0c, 0xdf, 0x83], true, &SILENCE)?;
+        tell(&mut tag, &[0x0c, 0xdf, 0x83], true, &SILENCE)?;
         check_eq(parts(&tag), (state, true, 0x05, 0, None))?;
         check(tag.memory == memory)?;
     }

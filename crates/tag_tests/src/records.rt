@@ -1,13 +1,13 @@
 // A tag's record: new, looked at, and compared.
 use crate::bench::*;
+use record::SIZE;
+use record::State;
+use record::StateDebug;
+use record::StatePartialEq;
+use record::Tag;
+use record::TagPartialEq;
+use record::WriteMark;
 use std::test::*;
-use tag::record::SIZE;
-use tag::record::State;
-use tag::record::StateDebug;
-use tag::record::StatePartialEq;
-use tag::record::Tag;
-use tag::record::TagPartialEq;
-use tag::record::WriteMark;
 
 #[test]
 fn a_new_tag() -> Result<(), Fail> {

@@ -1,0 +1,4 @@
+pub mod Gaps
+pub mod Masks
+pub mod Names
+pub mod Records

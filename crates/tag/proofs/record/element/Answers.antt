@@ -1,6 +1,0 @@
-use borrow.Author.Needs.{needs}
-use Rattle.std.proofs.shelf.Lists.{getD-past}
-use Rattle.tag.proofs.record.element.Needs as need
-
-pub returns-in-None : need.returns-in-None
-returns-in-None g c = search (needs, getD-past)
