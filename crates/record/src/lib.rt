@@ -1,5 +1,6 @@
 // What a tag of the chip SL3ICS31 holds, and what it forgets in a gap.
 ghost use mathlib.Core.Path.{_≡_};
+ghost use Prim.Native.Nat.{_-_};
 ghost use lib.ListN.{getD};
 ghost use Rattle.std.specs.Orderings.{Decides};
 ghost use Rattle.record.specs.Records.{byteAt, lockedAt, serialOf, markNumber, fallen, writeOk, newTag};
@@ -13,6 +14,8 @@ pub const SIZE: usize = 56;
 
 // How many of them, from the first on, are the serial number.
 pub const SERIAL: usize = 8;
+
+pub type Memory = [u8; SIZE];
 
 // What a tag is doing for the reader.
 #[derive(Clone, Copy, PartialEq, Eq, Debug)]
@@ -36,7 +39,7 @@ pub enum WriteMark {
 // The record of a tag. Each value of these types is one that a tag can have, so every part is open to its owner.
 #[derive(Clone, Copy)]
 pub struct Tag {
-    pub memory: [u8; SIZE],
+    pub memory: Memory,
     // For each byte, whether it can no more be written.
     pub locks: [bool; SIZE],
     pub state: State,
@@ -61,8 +64,10 @@ impl WriteMark {
         }
     }
 
+    // One less, if it is not 0.
     pub fn fallen(self) -> WriteMark
-        ensures { λ r. ⌜ r ≡ fallen self ⌝ }
+        ensures mark { λ r. ⌜ r ≡ fallen self ⌝ }
+        ensures number { λ r. ⌜ markNumber r ≡ markNumber self - 1 ⌝ }
     {
         match self {
             WriteMark::Fresh => WriteMark::Fading,
@@ -83,7 +88,7 @@ impl WriteMark {
 
 impl Tag {
     // A new tag: READY, with its first two bytes locked and all else clear.
-    pub fn new(memory: [u8; SIZE]) -> Tag
+    pub fn new(memory: Memory) -> Tag
         ensures { λ r. ⌜ r ≡ newTag memory ⌝ }
     {
         let mut locks = [false; SIZE];

@@ -10,7 +10,7 @@ use std::error::AnyError;
 // A lock bit for each of a tag's bytes.
 const LOCK_BYTES: usize = SIZE / 8;
 
-pub fn read_state(text: &str) -> Result<State, AnyError> {
+pub(crate) fn read_state(text: &str) -> Result<State, AnyError> {
     match text {
         "READY" => Ok(State::Ready),
         "SINGULATION" => Ok(State::Singulation),
@@ -19,7 +19,7 @@ pub fn read_state(text: &str) -> Result<State, AnyError> {
     }
 }
 
-pub fn read_mark(text: &str) -> Result<WriteMark, AnyError> {
+pub(crate) fn read_mark(text: &str) -> Result<WriteMark, AnyError> {
     match text {
         "0" => Ok(WriteMark::Clear),
         "1" => Ok(WriteMark::Fading),
@@ -28,7 +28,7 @@ pub fn read_mark(text: &str) -> Result<WriteMark, AnyError> {
     }
 }
 
-pub fn read_bit(text: &str) -> Result<bool, AnyError> {
+pub(crate) fn read_bit(text: &str) -> Result<bool, AnyError> {
     match text {
         "0" => Ok(false),
         "1" => Ok(true),
@@ -36,19 +36,19 @@ pub fn read_bit(text: &str) -> Result<bool, AnyError> {
     }
 }
 
-pub fn read_permission(text: &str) -> Result<Option<u8>, AnyError> {
+pub(crate) fn read_permission(text: &str) -> Result<Option<u8>, AnyError> {
     if text == "-" {
         return Ok(None);
     }
     Ok(Some(read_byte(text)?))
 }
 
-pub fn read_memory(heap: Global, text: &str) -> Result<[u8; SIZE], AnyError> {
+pub(crate) fn read_memory(heap: Global, text: &str) -> Result<[u8; SIZE], AnyError> {
     read_array::<SIZE>(heap, text)
 }
 
 // The highest bit of the first byte is address 00.
-pub fn read_locks(heap: Global, text: &str) -> Result<[bool; SIZE], AnyError> {
+pub(crate) fn read_locks(heap: Global, text: &str) -> Result<[bool; SIZE], AnyError> {
     let bytes = read_array::<LOCK_BYTES>(heap, text)?;
     let mut locks = [false; SIZE];
     for address in 0..SIZE {
@@ -66,7 +66,7 @@ fn read_array<const N: usize>(heap: Global, text: &str) -> Result<[u8; N], AnyEr
 }
 
 // Bytes in hexadecimal, and a dash for none.
-pub fn read_bytes(heap: Global, text: &str) -> Result<Vec<u8>, AnyError> {
+pub(crate) fn read_bytes(heap: Global, text: &str) -> Result<Vec<u8>, AnyError> {
     let mut bytes = Vec::new(heap);
     if text == "-" {
         return Ok(bytes);
@@ -77,7 +77,7 @@ pub fn read_bytes(heap: Global, text: &str) -> Result<Vec<u8>, AnyError> {
     Ok(bytes)
 }
 
-pub fn read_byte(text: &str) -> Result<u8, AnyError> {
+pub(crate) fn read_byte(text: &str) -> Result<u8, AnyError> {
     byte(text.as_bytes())
 }
 

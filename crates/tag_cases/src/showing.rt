@@ -5,13 +5,13 @@ use std::fmt;
 
 // A tag's record, where it is no longer what it was, and its reply.
 #[derive(Drop)]
-pub struct Answer<'a> {
-    pub before: &'a Tag,
-    pub after: &'a Tag,
-    pub reply: &'a [u8],
+pub(crate) struct Answer<'a> {
+    pub(crate) before: &'a Tag,
+    pub(crate) after: &'a Tag,
+    pub(crate) reply: &'a [u8],
 }
 
-pub impl fmt::Display for Answer<'_> as AnswerDisplay {
+pub(crate) impl fmt::Display for Answer<'_> as AnswerDisplay {
     fn fmt<W: fmt::Write>(&self, f: &mut fmt::Formatter<W>) -> fmt::Result {
         let state = self.after.state;
         let flag = u8::from(self.after.identified);

@@ -8,56 +8,67 @@ use record::Tag;
 use std::test::*;
 use tag::hear;
 
-pub const SERIAL: [u8; 8] = [0xef, 0x04, 0x02, 0x00, 0x00, 0x00, 0x00, 0x01];
+pub(crate) const SERIAL: [u8; 8] = [0xef, 0x04, 0x02, 0x00, 0x00, 0x00, 0x00, 0x01];
 
 // The codes of the commands with parameters.
-pub const SELECT: u8 = 0x00;
+pub(crate) const SELECT: u8 = 0x00;
 
-pub const UNSELECT_NE: u8 = 0x05;
+pub(crate) const UNSELECT_NE: u8 = 0x05;
 
-pub const UNSELECT_ID_FLAG: u8 = 0x19;
+pub(crate) const UNSELECT_ID_FLAG: u8 = 0x19;
 
-pub const UNSELECT_NOID_FLAG: u8 = 0x1a;
+pub(crate) const UNSELECT_NOID_FLAG: u8 = 0x1a;
 
-pub const READ: u8 = 0x0c;
+pub(crate) const READ: u8 = 0x0c;
 
-pub const VERIFY: u8 = 0x1d;
+pub(crate) const VERIFY: u8 = 0x1d;
 
-pub const LOCK: u8 = 0x0f;
+pub(crate) const LOCK: u8 = 0x0f;
 
-pub const QLOCK: u8 = 0x11;
+pub(crate) const QLOCK: u8 = 0x11;
 
-pub const READ_FLEXIBLE: u8 = 0x51;
+pub(crate) const READ_FLEXIBLE: u8 = 0x51;
 
-pub const WRITE: u8 = 0x1b;
+pub(crate) const WRITE: u8 = 0x1b;
 
 // The frames without parameters.
-pub const QUERY: [u8; 3] = [0x08, 0x9f, 0x07];
+pub(crate) const QUERY: [u8; 3] = [0x08, 0x9f, 0x07];
 
-pub const SCROLL: [u8; 3] = [0x09, 0x8f, 0x26];
+pub(crate) const SCROLL: [u8; 3] = [0x09, 0x8f, 0x26];
 
-pub const RESET: [u8; 3] = [0x0a, 0xbf, 0x45];
+pub(crate) const RESET: [u8; 3] = [0x0a, 0xbf, 0x45];
 
-pub const REPEAT: [u8; 3] = [0x15, 0x5c, 0x9b];
+pub(crate) const REPEAT: [u8; 3] = [0x15, 0x5c, 0x9b];
 
 // Replies: those of one byte, the serial number, and none.
-pub const REPLY_00: [u8; 3] = [0x00, 0x1e, 0x0f];
+pub(crate) const REPLY_00: [u8; 3] = [0x00, 0x1e, 0x0f];
 
-pub const REPLY_01: [u8; 3] = [0x01, 0x0e, 0x2e];
+pub(crate) const REPLY_01: [u8; 3] = [0x01, 0x0e, 0x2e];
 
-pub const REPLY_FE: [u8; 3] = [0xfe, 0x10, 0xde];
+pub(crate) const REPLY_FE: [u8; 3] = [0xfe, 0x10, 0xde];
 
-pub const REPLY_FF: [u8; 3] = [0xff, 0x00, 0xff];
+pub(crate) const REPLY_FF: [u8; 3] = [0xff, 0x00, 0xff];
 
-pub const REPLY_SERIAL: [u8; 10] = [0xef, 0x04, 0x02, 0x00, 0x00, 0x00, 0x00, 0x01, 0x3d, 0x9d];
+pub(crate) const REPLY_SERIAL: [u8; 10] = [
+    0xef,
+    0x04,
+    0x02,
+    0x00,
+    0x00,
+    0x00,
+    0x00,
+    0x01,
+    0x3d,
+    0x9d,
+];
 
-pub const SILENCE: [u8; 0] = [];
+pub(crate) const SILENCE: [u8; 0] = [];
 
 // All tags whose memory begins with EF 04.
-pub const OWN: [u8; 10] = [0x00, 0xc0, 0xef, 0x04, 0x00, 0x00, 0x00, 0x00, 0x00, 0x00];
+pub(crate) const OWN: [u8; 10] = [0x00, 0xc0, 0xef, 0x04, 0x00, 0x00, 0x00, 0x00, 0x00, 0x00];
 
 // A new tag, whose bytes behind the serial number are 80 more than their addresses.
-pub fn new_tag() -> Tag {
+pub(crate) fn new_tag() -> Tag {
     let mut memory = rising();
     memory[0..8].copy_from_slice(&SERIAL);
     Tag::new(memory)
@@ -74,7 +85,7 @@ fn rising() -> [u8; SIZE] {
 }
 
 // State, ID flag, counter, mark and permission.
-pub fn parts(tag: &Tag) -> (State, bool, u8, u8, Option<u8>) {
+pub(crate) fn parts(tag: &Tag) -> (State, bool, u8, u8, Option<u8>) {
     (
         tag.state,
         tag.identified,
@@ -85,7 +96,7 @@ pub fn parts(tag: &Tag) -> (State, bool, u8, u8, Option<u8>) {
 }
 
 // Steps the tag on the bytes of a frame, and checks what it replies.
-pub fn tell(tag: &mut Tag, frame: &[u8], coin: bool, expected: &[u8]) -> Result<(), Fail> {
+pub(crate) fn tell(tag: &mut Tag, frame: &[u8], coin: bool, expected: &[u8]) -> Result<(), Fail> {
     let mut buffer = [0u8; 258];
     let length = match hear(tag, frame, coin) {
         Some(reply) => reply.write(tag, &mut buffer)?,
@@ -95,19 +106,24 @@ pub fn tell(tag: &mut Tag, frame: &[u8], coin: bool, expected: &[u8]) -> Result<
 }
 
 // The same with a frame that is made for it.
-pub fn send(tag: &mut Tag, code: u8, parameters: &[u8], expected: &[u8]) -> Result<(), Fail> {
+pub(crate) fn send(
+    tag: &mut Tag,
+    code: u8,
+    parameters: &[u8],
+    expected: &[u8],
+) -> Result<(), Fail> {
     let mut buffer = [0u8; 17];
     let length = make(code, parameters, &mut buffer)?;
     tell(tag, front(&buffer, length)?, false, expected)
 }
 
 // The same with the tag's serial number in front of the parameters.
-pub fn call(tag: &mut Tag, code: u8, rest: &[u8], expected: &[u8]) -> Result<(), Fail> {
+pub(crate) fn call(tag: &mut Tag, code: u8, rest: &[u8], expected: &[u8]) -> Result<(), Fail> {
     call_by(tag, SERIAL, code, rest, expected)
 }
 
 // The same with any serial number.
-pub fn call_by(
+pub(crate) fn call_by(
     tag: &mut Tag,
     serial: [u8; 8],
     code: u8,
@@ -123,7 +139,7 @@ pub fn call_by(
 }
 
 // The same for a reply that is told without its check value.
-pub fn call_for(tag: &mut Tag, code: u8, rest: &[u8], data: &[u8]) -> Result<(), Fail> {
+pub(crate) fn call_for(tag: &mut Tag, code: u8, rest: &[u8], data: &[u8]) -> Result<(), Fail> {
     let mut buffer = [0u8; 258];
     let mut expected = Writer::new(&mut buffer);
     expected.put(data)?;
