@@ -4,6 +4,8 @@ use frame::writer::Writer;
 use protocol::refusal::RefusalDebug;
 use record::SIZE;
 use record::State;
+use record::StateDebug;
+use record::StatePartialEq;
 use record::Tag;
 use std::test::*;
 use tag::hear;
@@ -85,14 +87,18 @@ fn rising() -> [u8; SIZE] {
 }
 
 // State, ID flag, counter, mark and permission.
-pub(crate) fn parts(tag: &Tag) -> (State, bool, u8, u8, Option<u8>) {
-    (
+type Parts = (State, bool, u8, u8, Option<u8>);
+
+// Whether all of these are as expected.
+pub(crate) fn check_parts(tag: &Tag, expected: Parts) -> Result<(), Fail> {
+    let parts = (
         tag.state,
         tag.identified,
         tag.counter,
         tag.mark.number(),
         tag.permission,
-    )
+    );
+    check_eq(parts, expected)
 }
 
 // Steps the tag on the bytes of a frame, and checks what it replies.

@@ -1,8 +1,6 @@
 // The ends of the counter, of comparisons, of marks and of permissions.
 use crate::bench::*;
 use record::State;
-use record::StateDebug;
-use record::StatePartialEq;
 use record::Tag;
 use record::WriteMark;
 use std::test::*;
@@ -165,8 +163,8 @@ fn frames_to_another_tag() -> Result<(), Fail> {
         &[0x08, 0xf0, 0x11, 0x22, 0x33, 0x44],
         &SILENCE,
     )?;
-    check_eq(parts(&tag), (State::Singulation, false, 0x03, 1, None))?;
+    check_parts(&tag, (State::Singulation, false, 0x03, 1, None))?;
     check(tag.memory == memory)?;
     call_by(&mut tag, other, READ, &[0x08], &SILENCE)?;
-    check_eq(parts(&tag), (State::Singulation, false, 0x03, 0, None))
+    check_parts(&tag, (State::Singulation, false, 0x03, 0, None))
 }

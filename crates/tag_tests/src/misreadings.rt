@@ -1,8 +1,6 @@
 // Rules that are easily read otherwise.
 use crate::bench::*;
 use record::State;
-use record::StateDebug;
-use record::StatePartialEq;
 use record::Tag;
 use record::WriteMark;
 use std::test::*;
@@ -21,7 +19,7 @@ fn a_mask_opens_no_lock() -> Result<(), Fail> {
         &REPLY_FF,
     )?;
     check(tag.memory == memory)?;
-    check_eq(parts(&tag), (State::Inventoried, true, 0x00, 0, None))
+    check_parts(&tag, (State::Inventoried, true, 0x00, 0, None))
 }
 
 #[test]
@@ -34,10 +32,10 @@ fn a_verify_permits_no_lock() -> Result<(), Fail> {
         &REPLY_00,
     )?;
     call_for(&mut tag, VERIFY, &[0x08], &[0x11, 0x22, 0x33, 0x44])?;
-    check_eq(parts(&tag), (State::Inventoried, true, 0x00, 1, None))?;
+    check_parts(&tag, (State::Inventoried, true, 0x00, 1, None))?;
     tag.mark = WriteMark::Fresh;
     call(&mut tag, LOCK, &[0x08], &REPLY_00)?;
-    check_eq(parts(&tag), (State::Inventoried, true, 0x00, 0, None))?;
+    check_parts(&tag, (State::Inventoried, true, 0x00, 0, None))?;
     check(!tag.is_locked(0x08))
 }
 
@@ -51,7 +49,7 @@ fn a_write_permits_a_lock() -> Result<(), Fail> {
         &REPLY_00,
     )?;
     call(&mut tag, LOCK, &[0x08], &REPLY_00)?;
-    check_eq(parts(&tag), (State::Inventoried, true, 0x00, 2, None))?;
+    check_parts(&tag, (State::Inventoried, true, 0x00, 2, None))?;
     check(tag.is_locked(0x08))?;
     check(!tag.is_locked(0x09))
 }
@@ -72,7 +70,7 @@ fn damage_spares_the_flag() -> Result<(), Fail> {
     for state in [State::Ready, State::Singulation, State::Inventoried] {
         let mut tag = busy(state);
         tell(&mut tag, &[0x09, 0x8f, 0x27], true, &SILENCE)?;
-        check_eq(parts(&tag), (State::Ready, true, 0x05, 1, None))?;
+        check_parts(&tag, (State::Ready, true, 0x05, 1, None))?;
     }
     Ok(())
 }
@@ -82,9 +80,9 @@ fn a_stub_spares_the_flag() -> Result<(), Fail> {
     for state in [State::Ready, State::Singulation, State::Inventoried] {
         let mut tag = busy(state);
         tell(&mut tag, &[0x09, 0x8f], true, &SILENCE)?;
-        check_eq(parts(&tag), (State::Ready, true, 0x05, 1, None))?;
+        check_parts(&tag, (State::Ready, true, 0x05, 1, None))?;
         tell(&mut tag, &[], true, &SILENCE)?;
-        check_eq(parts(&tag), (State::Ready, true, 0x05, 0, None))?;
+        check_parts(&tag, (State::Ready, true, 0x05, 0, None))?;
     }
     Ok(())
 }
@@ -96,10 +94,10 @@ fn strange_frames_spare_the_state() -> Result<(), Fail> {
         let mut tag = busy(state);
         let memory = tag.memory;
         tell(&mut tag, &[0x02, 0x3e, 0x4d], true, &SILENCE)?;
-        check_eq(parts(&tag), (state, true, 0x05, 1, None))?;
+        check_parts(&tag, (state, true, 0x05, 1, None))?;
         tag.permission = Some(0x08);
         tell(&mut tag, &[0x0c, 0xdf, 0x83], true, &SILENCE)?;
-        check_eq(parts(&tag), (state, true, 0x05, 0, None))?;
+        check_parts(&tag, (state, true, 0x05, 0, None))?;
         check(tag.memory == memory)?;
     }
     Ok(())

@@ -2,8 +2,6 @@
 use crate::bench::*;
 use record::SIZE;
 use record::State;
-use record::StateDebug;
-use record::StatePartialEq;
 use record::Tag;
 use record::TagPartialEq;
 use record::WriteMark;
@@ -15,7 +13,7 @@ fn a_new_tag() -> Result<(), Fail> {
     memory[0x37] = 0xaa;
     let tag = Tag::new(memory);
     check(tag.memory == memory)?;
-    check_eq(parts(&tag), (State::Ready, false, 0x00, 0, None))?;
+    check_parts(&tag, (State::Ready, false, 0x00, 0, None))?;
     for address in 0..SIZE {
         check_eq(tag.locks[address], address < 2)?;
     }
