@@ -42,7 +42,8 @@ pub fn hear(tag: &mut Tag, bytes: &[u8], coin: bool) -> Option<Reply>
     step(tag, &open(bytes), coin)
 }
 
-// Steps a tag on what opening a frame gave, and tells what it replies.
+// Steps a tag on what opening a frame gave, and tells what it replies. The coin is what the tag draws at a QUERY: with
+// 1 it lets the others go first.
 pub fn step(tag: &mut Tag, opened: &Result<Frame<'_>, Refusal>, coin: bool) -> Option<Reply>
     ensures after { λ _. ⌜ now (tag .exit) ≡ stepped (seen (now (opened .entry))) coin (now (tag .entry)) ⌝ }
     ensures reply { λ r. ⌜ sounding (dataIn (now (tag .exit)) r) ≡ replied (seen (now (opened .entry))) coin (now (tag .entry)) ⌝ }
