@@ -1,4 +1,6 @@
 // Tables of tags, as fields.
+#![tactic(auto)]
+
 pub mod bench;
 pub mod single;
 mod walk;

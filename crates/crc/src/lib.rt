@@ -1,4 +1,6 @@
 // The check value of frames and replies.
+#![tactic(auto)]
+
 ghost use Rattle.std.specs.Prelude.{◌≡◌, ◌-◌, ◌++◌, if◌then◌else◌, fold};
 ghost use Rattle.crc.specs.Check.{bit_taken, byte_taken, register, check_value, sent};
 

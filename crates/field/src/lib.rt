@@ -1,4 +1,6 @@
 // Fields: whatever answers a reader, as a list of tags.
+#![tactic(auto)]
+
 pub mod declined;
 pub mod field;
 pub mod hearing;

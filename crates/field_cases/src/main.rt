@@ -1,6 +1,8 @@
 // Answers questions about fields, one to a line of standard input, in plays: `tag STATE FLAG COUNTER MARK PERMISSION LOCKS
 // MEMORY` and `find SERIAL` about a table, then `field NESTING` over it, then `send ROW ROOM FRAME` and `gap MICROSECONDS`
 // to that field, then `end`. The answers of another implementation are stored beside it, for comparison.
+#![tactic(auto)]
+
 mod building;
 mod nesting;
 mod reading;

@@ -1,4 +1,6 @@
 // Tests of fields, on values worked out by hand.
+#![tactic(auto)]
+
 #[cfg(test)]
 mod pairs;
 #[cfg(test)]

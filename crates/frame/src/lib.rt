@@ -1,4 +1,6 @@
 // Frames of the chip SL3ICS31: opening and making.
+#![tactic(auto)]
+
 pub mod making;
 pub mod opening;
 pub mod request;

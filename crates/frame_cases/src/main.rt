@@ -1,5 +1,7 @@
 // Answers questions about frames, one to a line of standard input: `check BYTES`, `open BYTES`, `make CODE BYTES ROOM`.
 // The answers of another implementation are stored beside it, for comparison.
+#![tactic(auto)]
+
 ghost use Rattle.std.specs.Prelude.{◌<◌, IfOk};
 
 use anyhow::anyhow;

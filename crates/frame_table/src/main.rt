@@ -1,4 +1,6 @@
 // Prints the frame of each of the fourteen commands, for a sample serial number.
+#![tactic(auto)]
+
 ghost use Rattle.std.specs.Prelude.{◌≡◌, ◌+◌, length, IfOk, vec_len};
 ghost use Rattle.protocol.specs.Commands.{layout, sizes};
 

@@ -1,4 +1,6 @@
 // Tests of the check value, of opening and of making, on vectors from outside.
+#![tactic(auto)]
+
 #[cfg(test)]
 mod check_values;
 #[cfg(test)]

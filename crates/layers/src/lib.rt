@@ -1,3 +1,5 @@
 // Fields made of fields.
+#![tactic(auto)]
+
 pub mod pair;
 pub mod spoiler;

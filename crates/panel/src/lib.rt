@@ -1,4 +1,6 @@
 // What the generator's panel, which is C, calls: the check value, and the opening of a frame.
+#![tactic(auto)]
+
 ghost use Rattle.std.specs.Prelude.{◌≡◌, ◌++◌, length, drop, if◌then◌else◌, nat_lt};
 ghost use Rattle.crc.specs.Check.{check_value};
 ghost use Rattle.frame.specs.Openings.{opening};

@@ -1,4 +1,6 @@
 // What a tag of the chip SL3ICS31 holds, and what it forgets in a gap.
+#![tactic(auto)]
+
 ghost use Rattle.std.specs.Prelude.{◌≡◌, ◌-◌, Decides, slice_index_or};
 ghost use Rattle.record.specs.Records.{byte_at, locked_at, serial_of, mark_number, fallen, is_write_ok, new_tag};
 ghost use Rattle.std.specs.Cmp.Rules.{comparing};

@@ -1,4 +1,6 @@
 // What a tag replies: told in a few bytes, and written out only where someone hears it.
+#![tactic(auto)]
+
 ghost use Rattle.std.specs.Prelude.{◌≡◌, ◌+◌, ◌≤◌, length, is_ok};
 ghost use Rattle.crc.specs.Check.{sealed};
 ghost use Rattle.frame.specs.Makings.{made, answering, leaving};

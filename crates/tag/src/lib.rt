@@ -1,4 +1,6 @@
 // What one tag of the chip SL3ICS31 does with a frame.
+#![tactic(auto)]
+
 ghost use Rattle.std.specs.Prelude.{◌≡◌, length};
 ghost use Rattle.frame.specs.Openings.{opening, seen};
 ghost use Rattle.frame.specs.Requests.{command_of, parts_of};

@@ -1,6 +1,8 @@
 // Answers questions about one tag, one to a line of standard input: `new MEMORY`, `locks LOCKS`,
 // `set STATE FLAG COUNTER MARK PERMISSION`, `step COIN FRAME`, `gap MICROSECONDS`.
 // The answers of another implementation are stored beside it, for comparison.
+#![tactic(auto)]
+
 mod reading;
 mod showing;
 

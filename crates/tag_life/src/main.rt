@@ -1,4 +1,6 @@
 // Plays the life of one tag: prints what it is sent, what it replies, and its record after that.
+#![tactic(auto)]
+
 use anyhow::anyhow;
 use frame::making::make;
 use protocol::command::{COMMANDS, Command};

@@ -1,4 +1,6 @@
 // Tests of one tag, on values worked out by hand.
+#![tactic(auto)]
+
 #[cfg(test)]
 mod bench;
 #[cfg(test)]

@@ -7,7 +7,7 @@ use Rattle.crc.proofs.after_bytes.Goals as goal
 
 pub loop-byte-preserved : goal.loop-byte-preserved
 loop-byte-preserved c =
-    c.after-byte-value.ensures ∙ ap (λ (r : ℕ). byte_taken r (get_or c.args.bytes.now c.loop-byte.byte-index 0)) c.loop-byte.invariant
+    c.after_byte-value.ensures ∙ ap (λ (r : ℕ). byte_taken r (get_or c.args.bytes.now c.loop-byte.byte-index 0)) c.loop-byte.invariant
     ∙ sym (fold_more byte_taken c.args.register c.args.bytes.now c.loop-byte.byte-index 0 c.loop-byte-test.true)
 
 pub returns : goal.returns
