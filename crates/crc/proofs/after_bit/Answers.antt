@@ -18,8 +18,8 @@ known : (r n : ℕ) (b : Bool) → n ≡ bool_byte b → moved (bit_xor r (n * 0
 unfolding bit_taken
 known r n b e = ap (λ (y : ℕ). moved (bit_xor r (y * 0x8000))) (e ∙ number b)
 
-pub overflow-mul-result-else-met-lt-TOP : goal.overflow-mul-result-else-met-lt-TOP
-overflow-mul-result-else-met-lt-TOP c =
+pub overflow_mul-result-else-met-lt-TOP : goal.overflow_mul-result-else-met-lt-TOP
+overflow_mul-result-else-met-lt-TOP c =
     let b : c.from.result < 2 = omega (arith, small c.args.bit, c.from.ensures) in
     record { fits = omega (arith, xor_lt 16 c.args.register (c.from.result * 32768) (omega arith) (omega arith)) }
 
