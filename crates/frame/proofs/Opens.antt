@@ -19,15 +19,15 @@ module _ (frame : List ℕ) where
   bad_check h s = long h ∙ cond-false _ _ _ s
 
   module _ (h : 3 ≤ length frame) (s : is_sealed frame ≡ true) where
-    by_name : (o : Option Command) → named (get_or frame 0 0) ≡ o → opening frame ≡ by_name o frame
-    by_name o e = long h ∙ cond-true _ _ _ s ∙ ap (λ (p : Option Command). by_name p frame) e
+    by_name_lem : (o : Option Command) → named (get_or frame 0 0) ≡ o → opening frame ≡ by_name o frame
+    by_name_lem o e = long h ∙ cond-true _ _ _ s ∙ ap (λ (p : Option Command). by_name p frame) e
 
     pub no_code : named (get_or frame 0 0) ≡ None → opening frame ≡ refused 3
-    no_code e = by_name None e
+    no_code e = by_name_lem None e
 
     pub bad-length : (c : Command) → named (get_or frame 0 0) ≡ Some c → (length frame ≡ length_of c → ⊥) → opening frame ≡ refused 4
-    bad-length c e l = by_name (Some c) e ∙ cond-false _ _ _ (ne_eqb (length frame) (length_of c) l)
+    bad-length c e l = by_name_lem (Some c) e ∙ cond-false _ _ _ (ne_eqb (length frame) (length_of c) l)
 
     pub opens : (c : Command) → named (get_or frame 0 0) ≡ Some c → length frame ≡ length_of c
         → opening frame ≡ opened (code_of c) c (placed 1 (layout c) (parameters_of frame))
-    opens c e l = by_name (Some c) e ∙ cond-true _ _ _ (eq-eqb (length frame) (length_of c) l)
+    opens c e l = by_name_lem (Some c) e ∙ cond-true _ _ _ (eq-eqb (length frame) (length_of c) l)

@@ -147,38 +147,38 @@ pub when_crowded : (b : Bool) (P Q : Type 0) → b ≡ false → Q → MatchBool
 when_crowded b P Q e q = subst (λ (x : Bool). MatchBool x P Q) (sym e) q
 
 -- A send to both sides of a pair.
-module _ (frame : Opening) (row behindRow : ℕ) (left right leftAfter rightAfter : List Tag) (few : length left + length right ≤ 64)
-    (shifted : behindRow ≡ row_behind (length left) row) (onLeft : leftAfter ≡ stepped_all frame row left)
-    (onRight : rightAfter ≡ stepped_all frame behindRow right) where
-  pub after-length : length leftAfter ≡ length left
-  after-length = ap length onLeft ∙ length-stepped frame row left
+module _ (frame : Opening) (row row_after : ℕ) (left right left_after right_after_send : List Tag) (few : length left + length right ≤ 64)
+    (shifted : row_after ≡ row_behind (length left) row) (on_left : left_after ≡ stepped_all frame row left)
+    (on_right : right_after_send ≡ stepped_all frame row_after right) where
+  pub after-length : length left_after ≡ length left
+  after-length = ap length on_left ∙ length-stepped frame row left
 
-  pub after_both : paired leftAfter rightAfter ≡ leftAfter ++ rightAfter
-  after_both = paired_both leftAfter rightAfter (omega (arith, after-length, ap length onRight, length-stepped frame behindRow right))
+  pub after_both : paired left_after right_after_send ≡ left_after ++ right_after_send
+  after_both = paired_both left_after right_after_send (omega (arith, after-length, ap length on_right, length-stepped frame row_after right))
 
-  pub right_after : rightAfter ≡ stepped_all frame (row_behind (length left) row) right
-  right_after = onRight ∙ ap (λ (k : ℕ). stepped_all frame k right) shifted
+  pub right_after : right_after_send ≡ stepped_all frame (row_behind (length left) row) right
+  right_after = on_right ∙ ap (λ (k : ℕ). stepped_all frame k right) shifted
 
-  pub both_tags : paired leftAfter rightAfter ≡ stepped_all frame row (paired left right)
+  pub both_tags : paired left_after right_after_send ≡ stepped_all frame row (paired left right)
   both_tags =
-      after_both ∙ ap₂ (λ (x : List Tag) (y : List Tag). x ++ y) onLeft right_after ∙ sym (stepped-join frame row left right)
+      after_both ∙ ap₂ (λ (x : List Tag) (y : List Tag). x ++ y) on_left right_after ∙ sym (stepped-join frame row left right)
       ∙ ap (stepped_all frame row) (sym (paired_both left right few))
 
-  pub both_air : mixed (on_air frame row left) (on_air frame behindRow right) ≡ on_air frame row (paired left right)
+  pub both_air : mixed (on_air frame row left) (on_air frame row_after right) ≡ on_air frame row (paired left right)
   both_air =
       ap (λ (k : ℕ). mixed (on_air frame row left) (on_air frame k right)) shifted ∙ sym (air-join frame row left right)
       ∙ ap (on_air frame row) (sym (paired_both left right few))
 
-  pub both_sound : (s o r : Sound) (places : ℕ) → places ≡ length left → r ≡ blended s (behind places o) → Tells s leftAfter (on_air frame row left)
-      → Tells o rightAfter (on_air frame behindRow right) → Tells r (paired leftAfter rightAfter) (on_air frame row (paired left right))
-  both_sound s o r places e blend fromLeft fromRight =
-      let here : r ≡ blended s (behind (length leftAfter) o) = blend ∙ ap (λ (n : ℕ). blended s (behind n o)) (e ∙ sym after-length) in
-      subst (λ (x : Sound). Tells x (paired leftAfter rightAfter) (on_air frame row (paired left right))) (sym here)
-      (subst (λ (ts : List Tag). Tells (blended s (behind (length leftAfter) o)) ts (on_air frame row (paired left right))) (sym after_both)
-      (subst (λ (a : Air). Tells (blended s (behind (length leftAfter) o)) (leftAfter ++ rightAfter) a) both_air
-      (tells_both s o leftAfter rightAfter (on_air frame row left) (on_air frame behindRow right) fromLeft fromRight)))
+  pub both_sound : (s o r : Sound) (places : ℕ) → places ≡ length left → r ≡ blended s (behind places o) → Tells s left_after (on_air frame row left)
+      → Tells o right_after_send (on_air frame row_after right) → Tells r (paired left_after right_after_send) (on_air frame row (paired left right))
+  both_sound s o r places e blend from_left from_right =
+      let here : r ≡ blended s (behind (length left_after) o) = blend ∙ ap (λ (n : ℕ). blended s (behind n o)) (e ∙ sym after-length) in
+      subst (λ (x : Sound). Tells x (paired left_after right_after_send) (on_air frame row (paired left right))) (sym here)
+      (subst (λ (ts : List Tag). Tells (blended s (behind (length left_after) o)) ts (on_air frame row (paired left right))) (sym after_both)
+      (subst (λ (a : Air). Tells (blended s (behind (length left_after) o)) (left_after ++ right_after_send) a) both_air
+      (tells_both s o left_after right_after_send (on_air frame row left) (on_air frame row_after right) from_left from_right)))
 
-  pub both_plain : (h a b : Hearing) → h ≡ together a b → a ≡ plainly (on_air frame row left) → b ≡ plainly (on_air frame behindRow right)
+  pub both_plain : (h a b : Hearing) → h ≡ together a b → a ≡ plainly (on_air frame row left) → b ≡ plainly (on_air frame row_after right)
       → h ≡ plainly (on_air frame row (paired left right))
   both_plain h a b e p q =
-      e ∙ ap₂ together p q ∙ plainly_both (on_air frame row left) (on_air frame behindRow right) ∙ ap plainly both_air
+      e ∙ ap₂ together p q ∙ plainly_both (on_air frame row left) (on_air frame row_after right) ∙ ap plainly both_air

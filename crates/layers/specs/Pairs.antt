@@ -41,13 +41,13 @@ behind places sound.Clash = sound.Clash
 
 -- What the sides of a pair do with a frame: each steps its own tags, the right ones with the coins behind the left's
 -- places, and hears what its kind hears.
-pub record Halves (frame : Opening) (row : ℕ) (left right leftAfter rightAfter : List Tag) (ofLeft ofRight : Hearing → Type 0) (h : Hearing) : Type 0 where
-  pub left_tags : leftAfter ≡ stepped_all frame row left
-  pub right_tags : rightAfter ≡ stepped_all frame (row_behind (length left) row) right
+pub record Halves (frame : Opening) (row : ℕ) (left right left_after right_after_send : List Tag) (of_left of_right : Hearing → Type 0) (h : Hearing) : Type 0 where
+  pub left_tags : left_after ≡ stepped_all frame row left
+  pub right_tags : right_after_send ≡ stepped_all frame (row_behind (length left) row) right
   pub heard_left : Hearing
   pub heard_right : Hearing
-  pub left_hears : ofLeft heard_left
-  pub right_hears : ofRight heard_right
+  pub left_hears : of_left heard_left
+  pub right_hears : of_right heard_right
   pub both : h ≡ together heard_left heard_right
 
 -- What a send and a gap do to a joined table is what they do to its two parts, wherever it is split.

@@ -15,10 +15,6 @@ pub enum Refusal {
     Length,
     // A buffer that is too short.
     Buffer,
-    // More than 64 places.
-    Crowd,
-    // A spoiler that would spoil each reply of no number.
-    Period,
 }
 
 impl Refusal {
@@ -32,8 +28,6 @@ impl Refusal {
             Refusal::Code => 3,
             Refusal::Length => 4,
             Refusal::Buffer => 5,
-            Refusal::Crowd => 6,
-            Refusal::Period => 11,
         }
     }
 }

@@ -129,7 +129,7 @@ impl Tag {
 
 // Two tags are alike if their records are equal in every part.
 impl PartialEq for Tag {
-    ghost equals = { λ t u r. Decides r (t ≡ u) };
+    ghost eq = { ? };
 
     ghost laws = { Prim.search (comparing, rules) };
 

@@ -79,7 +79,7 @@ locked permitted a t = cond (is_lockable permitted a) (marking Fresh (locking (s
 
 -- What QLOCK tells of a byte.
 abbrev pub lock_status : Bool → Bool → ℕ
-lock_status lockedByte ok = cond lockedByte (cond ok 0xff 0xfe) (cond ok 0x01 0x00)
+lock_status locked_byte ok = cond locked_byte (cond ok 0xff 0xfe) (cond ok 0x01 0x00)
 
 -- Whether a tag has a serial number.
 abbrev pub is_meant : Tag → List ℕ → Bool

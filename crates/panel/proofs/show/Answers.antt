@@ -8,6 +8,6 @@ returns c =
     record {
       answer = sym (cond-false _ _ _ room);
       shown =
-          ap (λ (xs : List ℕ). xs ++ drop 15 c.args.shown.now) (c.copy-from-slice.ensures.after ∙ c.row.ensures)
+          ap (λ (xs : List ℕ). xs ++ drop 15 c.args.shown.now) (c.copy_from_slice.ensures.after ∙ c.row.ensures)
           ∙ sym (cond-false _ _ _ room);
     }

@@ -16,7 +16,7 @@ loop-place-preserved c =
     let a : ℕ = c.args.address in
     let place : ℕ = c.loop-place.place in
     let both = put_more c.args.writer.now c.loop-place.writer c.put.new.self (bytes_from memory a place) (c.byte.result ∷ [])
-    c.loop-place.invariant.0 c.in-ok-put.ensures.put in
+    c.loop-place.invariant.0 c.in_ok-put.ensures.put in
     let read : c.byte.result ≡ get_or memory (a + place) 0 =
     c.byte.ensures ∙ ap (λ (x : ℕ). get_or memory (x + place) 0) c.from.ensures in (
       subst (λ (xs : List ℕ). Put xs c.args.writer.now c.put.new.self true)
@@ -34,12 +34,12 @@ returns c =
       lender = c.loop-place.invariant.1;
     }
 
-pub returns-in-err-put : goal.returns-in-err-put
-returns-in-err-put c =
+pub returns-in_err-put : goal.returns-in_err-put
+returns-in_err-put c =
     let held = c.loop-place.invariant.0 in
     let size = length-bytes_from c.args.tag.now.memory c.args.address c.loop-place.place in
     let room = put_room c.args.writer.now c.loop-place.writer _ held in
     let filled : c.loop-place.writer.filled ≡ c.args.writer.now.filled + length (bytes_from c.args.tag.now.memory c.args.address c.loop-place.place) =
     held.filled in
-    let full = false-leb (c.loop-place.writer.filled + 1) (length c.loop-place.writer.buffer.now) c.in-err-put.ensures.put.fits in
+    let full = false-leb (c.loop-place.writer.filled + 1) (length c.loop-place.writer.buffer.now) c.in_err-put.ensures.put.fits in
     absurd (omega arith)

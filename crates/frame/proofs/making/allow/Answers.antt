@@ -7,15 +7,15 @@ use Rattle.protocol.proofs.Lookups.{found_none, found_some}
 use Rattle.frame.proofs.Trips.{opens_back}
 use Rattle.frame.proofs.making.allow.Goals as goal
 
-pub overflow-sub-entry : goal.overflow-sub-entry
-overflow-sub-entry c =
+pub overflow_sub-entry : goal.overflow_sub-entry
+overflow_sub-entry c =
     let f = found_some c.args.code c.in-Some.entry c.in-Some.ensures in
     omega (arith, ap (λ (e : Entry). e.length) f.1)
 
-pub returns-in-default : goal.returns-in-default
-returns-in-default c =
+pub returns-in_default : goal.returns-in_default
+returns-in_default c =
     record {
-      made = no_code c.args.code c.args.parameters.now c.args.room (found_none c.args.code c.in-default.ensures);
+      made = no_code c.args.code c.args.parameters.now c.args.room (found_none c.args.code c.in_default.ensures);
       fits = tt;
       opens = tt;
       bare = bare_frames;

@@ -13,9 +13,9 @@ returns c =
     let code : ℕ = c.args.code in
     let n = c.new-writer.ensures in
     let h0 : Holds c.new-writer.result b [] = record { bytes = n.buffer; count = n.filled; over = n.register } in
-    let h1 = holds_more c.new-writer.result c.put.new.self b [] (code ∷ []) h0 c.in-ok-put.ensures.put in
-    let h2 = holds_more c.put.new.self c.put-2.new.self b (code ∷ []) ps h1 c.in-ok-put-2.ensures.put in
-    let h3 = holds-sealed c.put-2.new.self c.seal.new.self b (code ∷ ps) h2 c.in-ok-seal.ensures.put in
+    let h1 = holds_more c.new-writer.result c.put.new.self b [] (code ∷ []) h0 c.in_ok-put.ensures.put in
+    let h2 = holds_more c.put.new.self c.put-2.new.self b (code ∷ []) ps h1 c.in_ok-put-2.ensures.put in
+    let h3 = holds-sealed c.put-2.new.self c.seal.new.self b (code ∷ ps) h2 c.in_ok-seal.ensures.put in
     let final : c.seal.new.self.buffer.now ≡ sealed (code ∷ ps) ++ drop (length (sealed (code ∷ ps))) b = h3.bytes in
     let count : c.filled.result ≡ length (sealed (code ∷ ps)) = c.filled.ensures ∙ h3.count in
     record {

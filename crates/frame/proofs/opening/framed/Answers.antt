@@ -12,11 +12,11 @@ use Rattle.frame.proofs.Seals.{length_parameters}
 use Rattle.frame.proofs.Opens.{no_code, bad-length, opens}
 use Rattle.frame.proofs.opening.framed.Goals as goal
 
-pub returns-in-default : goal.returns-in-default
-returns-in-default c =
+pub returns-in_default : goal.returns-in_default
+returns-in_default c =
     let u = c.requires in
     record {
-      seen = sym (no_code c.args.bytes.now u.long u.right (ap named (sym u.code) ∙ found_none c.args.code c.in-default.ensures));
+      seen = sym (no_code c.args.bytes.now u.long u.right (ap named (sym u.code) ∙ found_none c.args.code c.in_default.ensures));
       bytes = tt;
       within = tt;
       remade = tt;

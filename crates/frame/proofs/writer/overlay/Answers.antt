@@ -10,4 +10,4 @@ returns c =
     let n : ℕ = length c.args.bytes.now in
     let place : ℕ = c.args.start in
     let same : place + n - place ≡ n = omega arith in
-    ap₂ (λ (p q : List ℕ). take place xs ++ (p ++ q)) c.copy-from-slice.ensures.after (ap (λ (k : ℕ). drop k (drop place xs)) same ∙ drop-drop n place xs)
+    ap₂ (λ (p q : List ℕ). take place xs ++ (p ++ q)) c.copy_from_slice.ensures.after (ap (λ (k : ℕ). drop k (drop place xs)) same ∙ drop-drop n place xs)

@@ -6,7 +6,7 @@ pub returns-then-next-period : goal.returns-then-next-period
 returns-then-next-period c =
     λ n k e.
     let less : n % c.args.period < c.args.period = mod-lt n k in
-    let next : c.saturating-add-next.result ≡ n % c.args.period + 1 = omega (arith, c.saturating-add-next.ensures) in
+    let next : c.saturating_add-next.result ≡ n % c.args.period + 1 = omega (arith, c.saturating_add-next.ensures) in
     let low : n % c.args.period + 1 < c.args.period = omega arith in
     next ∙ sym (mod-eq_of_lt low) ∙ mod-add-mod n c.args.period 1
 
@@ -14,5 +14,5 @@ pub returns-else-next-period : goal.returns-else-next-period
 returns-else-next-period c =
     λ n k e.
     let less : n % c.args.period < c.args.period = mod-lt n k in
-    let whole : n % c.args.period + 1 ≡ c.args.period = omega (arith, c.saturating-add-next.ensures) in
+    let whole : n % c.args.period + 1 ≡ c.args.period = omega (arith, c.saturating_add-next.ensures) in
     sym (sym (mod-add-mod n c.args.period 1) ∙ ap (λ (x : ℕ). x % c.args.period) whole ∙ mod_self c.args.period)

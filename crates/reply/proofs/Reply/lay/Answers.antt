@@ -7,33 +7,33 @@ use Rattle.reply.specs.Replies.{data_of}
 use Rattle.reply.proofs.Bytes.{length-sealed}
 use Rattle.reply.proofs.Reply.lay.Goals as goal
 
-pub put-data-requires : goal.put-data-requires
-put-data-requires c =
+pub put_data-requires : goal.put_data-requires
+put_data-requires c =
     let size = length-sealed (data_of c.args.tag.now c.args.self) in
     let start : c.new-writer.result.filled ≡ 0 = c.new-writer.ensures.filled in
     let room : length c.new-writer.result.buffer.now ≡ length c.args.buffer.now = ap length c.new-writer.ensures.buffer in
     omega (arith, c.requires)
 
-pub returns-in-err-put-data : goal.returns-in-err-put-data
-returns-in-err-put-data c =
+pub returns-in_err-put_data : goal.returns-in_err-put_data
+returns-in_err-put_data c =
     let size = length-sealed (data_of c.args.tag.now c.args.self) in
     let start : c.new-writer.result.filled ≡ 0 = c.new-writer.ensures.filled in
     let room : length c.new-writer.result.buffer.now ≡ length c.args.buffer.now = ap length c.new-writer.ensures.buffer in
     let full = false-leb (c.new-writer.result.filled + length (data_of c.args.tag.now c.args.self))
-    (length c.new-writer.result.buffer.now) c.in-err-put-data.ensures.put.fits in
+    (length c.new-writer.result.buffer.now) c.in_err-put_data.ensures.put.fits in
     absurd (omega (arith, c.requires))
 
-pub returns-in-err-seal : goal.returns-in-err-seal
-returns-in-err-seal c =
+pub returns-in_err-seal : goal.returns-in_err-seal
+returns-in_err-seal c =
     let bytes : List ℕ = data_of c.args.tag.now c.args.self in
     let size = length-sealed bytes in
     let start : c.new-writer.result.filled ≡ 0 = c.new-writer.ensures.filled in
     let room : length c.new-writer.result.buffer.now ≡ length c.args.buffer.now = ap length c.new-writer.ensures.buffer in
-    let put = c.in-ok-put-data.ensures.put in
-    let kept : length c.put-data.new.writer.buffer.now ≡ length c.new-writer.result.buffer.now =
-    put_room c.new-writer.result c.put-data.new.writer bytes put in
-    let filled : c.put-data.new.writer.filled ≡ c.new-writer.result.filled + length bytes = put.filled in
-    let full = false-leb (c.put-data.new.writer.filled + 2) (length c.put-data.new.writer.buffer.now) c.in-err-seal.ensures.put.fits in
+    let put = c.in_ok-put_data.ensures.put in
+    let kept : length c.put_data.new.writer.buffer.now ≡ length c.new-writer.result.buffer.now =
+    put_room c.new-writer.result c.put_data.new.writer bytes put in
+    let filled : c.put_data.new.writer.filled ≡ c.new-writer.result.filled + length bytes = put.filled in
+    let full = false-leb (c.put_data.new.writer.filled + 2) (length c.put_data.new.writer.buffer.now) c.in_err-seal.ensures.put.fits in
     absurd (omega (arith, c.requires))
 
 pub returns : goal.returns
@@ -42,8 +42,8 @@ returns c =
     let bytes : List ℕ = data_of c.args.tag.now c.args.self in
     let n = c.new-writer.ensures in
     let h0 : Holds c.new-writer.result b [] = record { bytes = n.buffer; count = n.filled; over = n.register } in
-    let h1 = holds_more c.new-writer.result c.put-data.new.writer b [] bytes h0 c.in-ok-put-data.ensures.put in
-    let h2 = holds-sealed c.put-data.new.writer c.seal.new.self b bytes h1 c.in-ok-seal.ensures.put in
+    let h1 = holds_more c.new-writer.result c.put_data.new.writer b [] bytes h0 c.in_ok-put_data.ensures.put in
+    let h2 = holds-sealed c.put_data.new.writer c.seal.new.self b bytes h1 c.in_ok-seal.ensures.put in
     let final : c.seal.new.self.buffer.now ≡ sealed bytes ++ drop (length (sealed bytes)) b = h2.bytes in
     let count : c.filled.result ≡ length (sealed bytes) = c.filled.ensures ∙ h2.count in
     record {

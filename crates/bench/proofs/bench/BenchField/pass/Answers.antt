@@ -11,7 +11,7 @@ pub returns : goal.returns
 returns c =
     let us = c.args.microseconds in
     let before : List Tag = c.args.self.now.table.now in
-    let e = ap meant c.pass-all.ensures ∙ meant-map (gapped us) before in
+    let e = ap meant c.pass_all.ensures ∙ meant-map (gapped us) before in
     record {
       tags = e;
       places = subst (InPlace (λ _. gapped us) (meant before)) (sym e) (gapped_in_place us (meant before));

@@ -19,12 +19,12 @@ returns-then-left-right-gt-PLACES g c =
     let right : List Tag = g.R.Field.tags c.args.self.now.right in
     let after : List Tag = g.L.Field.tags c.listen-sound.new.self in
     let s : Sound = c.listen-sound.result in
-    let onLeft = c.listen-sound.ensures.tags in
+    let on_left = c.listen-sound.ensures.tags in
     let far : 64 < length left + length right = omega (arith, c.places-left.ensures, c.places-right.ensures, c.if-left-right-gt-PLACES.true) in
     let before-is = paired_left left right far in
-    let after_is = paired_left after right (omega (arith, far, ap length onLeft, length-stepped frame c.args.row left)) in
+    let after_is = paired_left after right (omega (arith, far, ap length on_left, length-stepped frame c.args.row left)) in
     record {
-      tags = after_is ∙ onLeft ∙ ap (stepped_all frame c.args.row) (sym before-is);
+      tags = after_is ∙ on_left ∙ ap (stepped_all frame c.args.row) (sym before-is);
       sound = subst (λ (ts : List Tag). Tells s ts (on_air frame c.args.row (paired left right))) (sym after_is)
           (subst (λ (ts : List Tag). Tells s after (on_air frame c.args.row ts)) (sym before-is) c.listen-sound.ensures.sound);
       faithful = λ f. c.listen-sound.ensures.faithful (and_parts g.L.Field.faithful g.R.Field.faithful f).0
@@ -38,28 +38,28 @@ returns g c =
     let row = c.args.row in
     let left : List Tag = g.L.Field.tags c.args.self.now.left in
     let right : List Tag = g.R.Field.tags c.args.self.now.right in
-    let leftAfter : List Tag = g.L.Field.tags c.listen-sound.new.self in
-    let rightAfter : List Tag = g.R.Field.tags c.listen-other.new.self in
+    let left_after : List Tag = g.L.Field.tags c.listen-sound.new.self in
+    let right_after_send : List Tag = g.R.Field.tags c.listen-other.new.self in
     let s : Sound = c.listen-sound.result in
     let o : Sound = c.listen-other.result in
     let few : length left + length right ≤ 64 = omega (arith, c.places-left.ensures, c.places-right.ensures, c.if-left-right-gt-PLACES.false) in
-    let shifted = c.row-behind.ensures ∙ ap (λ (n : ℕ). row_behind n row) c.places-left.ensures in
+    let shifted = c.row_behind.ensures ∙ ap (λ (n : ℕ). row_behind n row) c.places-left.ensures in
     let blend = c.blend.ensures ∙ ap (blended s) c.behind.ensures in
     let both = ap hearing_of blend ∙ hearing_both s o c.places-left.result in
-    let onLeft = c.listen-sound.ensures.tags in
-    let onRight = c.listen-other.ensures.tags in
-    let behindRow : ℕ = c.row-behind.result in
+    let on_left = c.listen-sound.ensures.tags in
+    let on_right = c.listen-other.ensures.tags in
+    let row_after : ℕ = c.row_behind.result in
     record {
-      tags = both_tags frame row behindRow left right leftAfter rightAfter few shifted onLeft onRight;
-      sound = both_sound frame row behindRow left right leftAfter rightAfter few shifted onLeft onRight s o c.blend.result c.places-left.result
+      tags = both_tags frame row row_after left right left_after right_after_send few shifted on_left on_right;
+      sound = both_sound frame row row_after left right left_after right_after_send few shifted on_left on_right s o c.blend.result c.places-left.result
           c.places-left.ensures blend c.listen-sound.ensures.sound c.listen-other.ensures.sound;
-      faithful = λ f. both_plain frame row behindRow left right leftAfter rightAfter few shifted onLeft onRight (hearing_of c.blend.result) (hearing_of s) (hearing_of o) both
+      faithful = λ f. both_plain frame row row_after left right left_after right_after_send few shifted on_left on_right (hearing_of c.blend.result) (hearing_of s) (hearing_of o) both
           (c.listen-sound.ensures.faithful (and_parts g.L.Field.faithful g.R.Field.faithful f).0)
           (c.listen-other.ensures.faithful (and_parts g.L.Field.faithful g.R.Field.faithful f).1);
       kind = when-fits (fits left right) _ _ (le-leb (length left + length right) 64 few)
           record {
-            left_tags = onLeft;
-            right_tags = right_after frame row behindRow left right leftAfter rightAfter few shifted onLeft onRight;
+            left_tags = on_left;
+            right_tags = right_after frame row row_after left right left_after right_after_send few shifted on_left on_right;
             heard_left = hearing_of s;
             heard_right = hearing_of o;
             left_hears = c.listen-sound.ensures.kind;
