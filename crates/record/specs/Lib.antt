@@ -1,3 +1,4 @@
+pub mod Alike
 pub mod Gaps
 pub mod Masks
 pub mod Names

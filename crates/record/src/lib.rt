@@ -3,8 +3,7 @@
 
 ghost use Rattle.std.specs.Prelude.{◌≡◌, ◌-◌, Decides, slice_index_or};
 ghost use Rattle.record.specs.Records.{byte_at, locked_at, serial_of, mark_number, fallen, is_write_ok, new_tag};
-ghost use Rattle.std.specs.Cmp.Rules.{comparing};
-ghost use Rattle.std.proofs.Common.{rules};
+ghost use Rattle.record.specs.Alike.{alike, alike_partial_equivalence};
 
 pub mod gap;
 mod masks;
@@ -129,11 +128,14 @@ impl Tag {
 
 // Two tags are alike if their records are equal in every part.
 impl PartialEq for Tag {
-    ghost eq = { ? };
+    ghost eq = { alike };
 
-    ghost laws = { Prim.search (comparing, rules) };
+    ghost laws = { alike_partial_equivalence };
 
-    fn eq(&self, other: &Tag) -> bool {
+    fn eq(&self, other: &Tag) -> bool
+        ensures value { result ≡ alike self.now other.now }
+        ensures alike { Decides result (self.now ≡ other.now) }
+    {
         same_bytes(&self.memory, &other.memory)
             && same_bits(&self.locks, &other.locks)
             && self.state == other.state
