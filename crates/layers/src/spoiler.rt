@@ -3,7 +3,7 @@ ghost use Rattle.std.specs.Prelude.{◌≡◌, ℕ, ◌+◌, ◌%◌, ◌<◌, f
 ghost use Rattle.field.specs.Declining.{declined_by};
 ghost use Rattle.layers.specs.Spoilers.{Spoils};
 
-use field::declined::Declined;
+use field::declined::{Declined, Misfit};
 use field::field::Field;
 use field::sound::Sound;
 use frame::opening::Frame;
@@ -29,7 +29,7 @@ impl<F> Spoiler<F> {
     {
         if period == 0 {
             return Err(Declined {
-                refusal: Refusal::Period,
+                refusal: Misfit::Period,
                 given: field,
             });
         }
