@@ -4,6 +4,7 @@ use bench::bench::Bench;
 use layers::pair::Pair;
 use record::{State, Tag};
 use std::process::Abort;
+use std::test::Fail;
 
 // How many of 64 tags stand at the left.
 const SPLITS: [usize; 5] = [0, 1, 32, 63, 64];

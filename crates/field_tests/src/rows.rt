@@ -3,6 +3,7 @@ use crate::setting::*;
 use bench::single::Single;
 use record::{State, Tag};
 use std::process::Abort;
+use std::test::Fail;
 
 // Whether each tag has counter 01 where the row has a 1 for it, and 00 where it has a 0.
 fn counters_follow(rt: &impl Abort, table: &[Tag], row: u64) {

@@ -2,6 +2,7 @@
 use crate::bench::*;
 use record::{State, Tag, WriteMark};
 use std::process::Abort;
+use std::test::Fail;
 
 fn singulated(counter: u8) -> Tag {
     let mut tag = new_tag();

@@ -2,6 +2,7 @@
 use crate::bench::*;
 use record::{State, Tag};
 use std::process::Abort;
+use std::test::Fail;
 
 const WRITTEN: [u8; 4] = [0xde, 0xad, 0xbe, 0xef];
 

@@ -1,6 +1,7 @@
 // Reading, writing and locking up to the last byte, and past it.
 use crate::bench::*;
 use record::{SIZE, Tag, WriteMark};
+use std::test::Fail;
 
 #[test]
 fn the_last_four_bytes_are_writable(rt: HostRuntime) -> Result<(), Fail> {
@@ -12,7 +13,10 @@ fn the_last_four_bytes_are_writable(rt: HostRuntime) -> Result<(), Fail> {
         &[0x34, 0xf0, 0xde, 0xad, 0xbe, 0xef],
         &REPLY_00,
     )?;
-    assert_eq!(rt; &tag.memory[0x33..SIZE], &[0xb3u8, 0xde, 0xad, 0xbe, 0xef]);
+    assert_eq!(rt;
+        &tag.memory[0x33..SIZE],
+        [0xb3u8, 0xde, 0xad, 0xbe, 0xef].as_slice()
+    );
     assert_eq!(rt; tag.permission, Some(0x34));
     Ok(())
 }
@@ -29,7 +33,7 @@ fn masks_of_writes(rt: HostRuntime) -> Result<(), Fail> {
     )?;
     assert_eq!(rt;
         &tag.memory[0x07..0x0d],
-        &[0x01u8, 0x88, 0x22, 0x33, 0x8b, 0x8c]
+        [0x01u8, 0x88, 0x22, 0x33, 0x8b, 0x8c].as_slice()
     );
     Ok(())
 }

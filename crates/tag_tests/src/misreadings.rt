@@ -1,6 +1,7 @@
 // Rules that are easily read otherwise.
 use crate::bench::*;
 use record::{State, Tag, WriteMark};
+use std::test::Fail;
 
 // One locked byte of the four is enough, though the mask leaves it out.
 #[test]

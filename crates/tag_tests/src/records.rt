@@ -17,7 +17,7 @@ fn a_new_tag(rt: HostRuntime) {
 #[test]
 fn parts_at_the_end(rt: HostRuntime) {
     let mut tag = new_tag();
-    assert_eq!(rt; tag.serial(), &SERIAL);
+    assert_eq!(rt; tag.serial(), SERIAL.as_slice());
     assert_eq!(rt; tag.byte(0x00), 0xef);
     assert_eq!(rt; tag.byte(0x37), 0xb7);
     assert_eq!(rt; tag.byte(0x38), 0x00);
