@@ -3,17 +3,17 @@ use crate::nesting::{Leaf, Node};
 use anyhow::anyhow;
 use bench::bench::Bench;
 use bench::single::Single;
+use field::declined::Misfit;
 use field::field::Field;
 use layers::pair::Pair;
 use layers::spoiler::Spoiler;
-use protocol::refusal::Refusal;
 use record::Tag;
 
 // Why there is no field.
 #[derive(Drop)]
 pub(crate) enum Trouble {
     // A part of it was refused.
-    Refused(Refusal),
+    Refused(Misfit),
     // The words make no sense.
     Words(anyhow::Error),
 }
@@ -85,14 +85,14 @@ impl<'a> Build<'a> for Leaf<'a> {
                 bench_leaf(places, table)
             }
             "single" => single_leaf(table),
-            _ => Err(Trouble::Words("no field".into())),
+            _ => Err(Trouble::Words(anyhow!("no field"))),
         }
     }
 }
 
 fn bench_leaf(places: usize, table: &mut [Tag]) -> Result<(Leaf<'_>, &mut [Tag]), Trouble> {
     if places > table.len() {
-        return Err(Trouble::Words("too few tags".into()));
+        return Err(Trouble::Words(anyhow!("too few tags")));
     }
     let (front, rest) = table.split_at_mut(places);
     let mut bench = Bench::new();
@@ -104,7 +104,7 @@ fn bench_leaf(places: usize, table: &mut [Tag]) -> Result<(Leaf<'_>, &mut [Tag])
 
 fn single_leaf(table: &mut [Tag]) -> Result<(Leaf<'_>, &mut [Tag]), Trouble> {
     if table.is_empty() {
-        return Err(Trouble::Words("too few tags".into()));
+        return Err(Trouble::Words(anyhow!("too few tags")));
     }
     let tag = table[0];
     let (_, rest) = table.split_at_mut(1);

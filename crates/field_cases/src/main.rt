@@ -14,10 +14,10 @@ use crate::reading::{read_bytes, read_row, read_tag, word};
 use crate::showing::{Fingerprint, Hex, of_bytes, of_tags, without_end};
 use anyhow::anyhow;
 use bench::bench::{Bench, place_of};
+use field::declined::Misfit;
 use field::field::Field;
 use layers::pair::Pair;
 use layers::spoiler::Spoiler;
-use protocol::refusal::Refusal;
 use record::Tag;
 use std::alloc::Global;
 use std::io::{BufRead, BufReader};
@@ -119,7 +119,7 @@ fn ask_all<F: Field + Drop>(
 }
 
 // A refused field is one of no tags.
-fn ask_none(rt: &HostRuntime, refusal: Refusal, questions: &[String]) -> anyhow::Result<()> {
+fn ask_none(rt: &HostRuntime, refusal: Misfit, questions: &[String]) -> anyhow::Result<()> {
     println!(rt; "refused {}", refusal.number())?;
     let mut field = Bench::new();
     let mut buffer = [FILLING; BUFFER];
