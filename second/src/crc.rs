@@ -83,17 +83,21 @@ pub fn check_value(bytes: &[u8]) -> [u8; 2] {
 mod tests {
     use super::*;
 
+    fn value(register: &Register) -> u16 {
+        register.value()
+    }
+
     fn after_each_bit(register: &mut Register, bits: &str) -> Vec<u16> {
         let step = |bit| {
             register.take_bit(bit == '1');
-            register.value()
+            value(register)
         };
         bits.chars().map(step).collect()
     }
 
     #[test]
     fn starts_with_every_cell_set() {
-        assert_eq!(Register::preset().value(), 0xFFFF);
+        assert_eq!(value(&Register::preset()), 0xFFFF);
         assert_eq!(check_value(&[]), [0x00, 0x00]);
     }
 
@@ -127,7 +131,7 @@ mod tests {
         ];
         let values = bytes.map(|byte| {
             register.take_byte(byte);
-            register.value()
+            value(&register)
         });
         assert_eq!(
             values,

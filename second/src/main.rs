@@ -21,7 +21,7 @@ mod tag_cases;
 mod tag_lives;
 mod tag_question;
 
-use std::ffi::{OsStr, OsString};
+use std::ffi::OsString;
 use std::path::{Path, PathBuf};
 use std::process::ExitCode;
 use std::{env, fs};
@@ -35,29 +35,34 @@ const USAGE: &str = "usage: second frames SEED INPUT_FILE OUTPUT_FILE
        second speed read SENDS";
 
 /// What the questions are about.
-#[derive(Clone, Copy, Debug, PartialEq)]
+#[derive(Clone, Copy)]
 enum Subject {
     Frames,
     Tags,
     Fields,
 }
 
+/// Questions and answers that are wanted.
+struct Job {
+    subject: Subject,
+    seed: u64,
+    input: PathBuf,
+    output: PathBuf,
+}
+
+/// How fast fields are, by sends of one kind.
 #[derive(Debug, PartialEq)]
-enum Job {
-    Ask {
-        subject: Subject,
-        seed: u64,
-        input: PathBuf,
-        output: PathBuf,
-    },
-    Speed {
-        load: Load,
-        sends: u64,
-    },
+struct Race {
+    load: Load,
+    sends: u64,
 }
 
 fn main() -> ExitCode {
     let words: Vec<OsString> = env::args_os().skip(1).collect();
+    if let Some(race) = understand_race(&words) {
+        println!("{}", speed::run(race.load, race.sends));
+        return ExitCode::SUCCESS;
+    }
     let Some(job) = understand(&words) else {
         eprintln!("{USAGE}");
         return ExitCode::from(2);
@@ -71,81 +76,61 @@ fn main() -> ExitCode {
     }
 }
 
+fn understand_race(words: &[OsString]) -> Option<Race> {
+    let [verb, load, sends] = words else {
+        return None;
+    };
+    let load = match (verb.to_str()?, load.to_str()?) {
+        ("speed", "query") => Load::Query,
+        ("speed", "read") => Load::Read,
+        _ => return None,
+    };
+    let sends = sends.to_str()?.parse().ok()?;
+    Some(Race { load, sends })
+}
+
 fn understand(words: &[OsString]) -> Option<Job> {
-    match words {
-        [verb, load, sends] if verb == "speed" => Some(Job::Speed {
-            load: understand_load(load)?,
-            sends: number(sends)?,
-        }),
-        [verb, seed, input, output] => Some(Job::Ask {
-            subject: understand_subject(verb)?,
-            seed: number(seed)?,
-            input: input.into(),
-            output: output.into(),
-        }),
-        _ => None,
-    }
-}
-
-fn understand_load(word: &OsStr) -> Option<Load> {
-    match word.to_str()? {
-        "query" => Some(Load::Query),
-        "read" => Some(Load::Read),
-        _ => None,
-    }
-}
-
-fn understand_subject(word: &OsStr) -> Option<Subject> {
-    match word.to_str()? {
-        "frames" => Some(Subject::Frames),
-        "tags" => Some(Subject::Tags),
-        "fields" => Some(Subject::Fields),
-        _ => None,
-    }
-}
-
-fn number(word: &OsStr) -> Option<u64> {
-    word.to_str()?.parse().ok()
+    let [verb, seed, input, output] = words else {
+        return None;
+    };
+    let subject = match verb.to_str()? {
+        "frames" => Subject::Frames,
+        "tags" => Subject::Tags,
+        "fields" => Subject::Fields,
+        _ => return None,
+    };
+    let seed = seed.to_str()?.parse().ok()?;
+    Some(Job {
+        subject,
+        seed,
+        input: input.into(),
+        output: output.into(),
+    })
 }
 
 fn run(job: &Job) -> Result<(), String> {
-    match job {
-        Job::Speed { load, sends } => {
-            println!("{}", speed::run(*load, *sends));
-            Ok(())
-        }
-        Job::Ask {
-            subject,
-            seed,
-            input,
-            output,
-        } => write(&lines(*subject, *seed), input, output),
-    }
-}
-
-fn write(lines: &[(String, String)], input: &Path, output: &Path) -> Result<(), String> {
     let mut questions = String::new();
     let mut answers = String::new();
-    for (question, answer) in lines {
+    for (question, answer) in lines(job) {
         questions += &format!("{question}\n");
         answers += &format!("{answer}\n");
     }
-    save(input, &questions)?;
-    save(output, &answers)
+    save(&job.input, &questions)?;
+    save(&job.output, &answers)
 }
 
 /// Each question with its answer.
-fn lines(subject: Subject, seed: u64) -> Vec<(String, String)> {
-    match subject {
-        Subject::Frames => cases::all(seed)
+fn lines(job: &Job) -> Vec<(String, String)> {
+    match job.subject {
+        Subject::Frames => cases::all(job.seed)
             .iter()
             .map(|question| (question.to_string(), question.answer()))
             .collect(),
-        Subject::Tags => tag_cases::all(seed)
+        Subject::Tags => tag_cases::all(job.seed)
             .into_iter()
             .map(|asked| (asked.question.to_string(), asked.answer))
             .collect(),
-        Subject::Fields => field_cases::all(seed)
+        Subject::Fields => field_cases::all(job.seed)
             .into_iter()
             .map(|asked| (asked.question.to_string(), asked.answer))
             .collect(),
@@ -160,58 +145,74 @@ fn save(path: &Path, text: &str) -> Result<(), String> {
 mod tests {
     use super::*;
 
-    fn job(line: &str) -> Option<Job> {
+    fn understood(line: &str) -> bool {
         let words: Vec<OsString> = line.split_whitespace().map(OsString::from).collect();
-        understand(&words)
+        understand(&words).is_some()
     }
 
-    fn understood(line: &str) -> bool {
-        job(line).is_some()
+    fn race(line: &str) -> Option<Race> {
+        let words: Vec<OsString> = line.split_whitespace().map(OsString::from).collect();
+        understand_race(&words)
+    }
+
+    fn first_question(line: &str) -> String {
+        let words: Vec<OsString> = line.split_whitespace().map(OsString::from).collect();
+        let job = understand(&words).expect("the arguments are right");
+        lines(&job)[0].0.clone()
     }
 
     #[test]
     fn the_verb_settles_the_subject() {
-        let first = |line: &str| match job(line) {
-            Some(Job::Ask { subject, seed, .. }) => lines(subject, seed)[0].0.clone(),
-            other => panic!("{other:?} asks nothing"),
+        let first = |line: &str| {
+            let words: Vec<OsString> = line.split_whitespace().map(OsString::from).collect();
+            let job = understand(&words).expect("the arguments are right");
+            lines(&job)[0].0.clone()
         };
         assert!(first("frames 1 q a").starts_with("check "));
         assert!(first("tags 1 q a").starts_with("step "));
-        let fields = first("fields 1 q a");
+    }
+
+    #[test]
+    fn questions_about_fields_begin_with_a_table() {
+        let first = first_question("fields 1 q a");
         assert!(["tag ", "find ", "field "]
             .iter()
-            .any(|verb| fields.starts_with(verb)));
+            .any(|verb| first.starts_with(verb)));
     }
 
     #[test]
     fn loads_and_numbers_of_sends() {
-        let speed = |load, sends| Some(Job::Speed { load, sends });
-        assert_eq!(job("speed query 7"), speed(Load::Query, 7));
-        assert_eq!(job("speed read 0"), speed(Load::Read, 0));
-        assert!(!understood("speed"));
-        assert!(!understood("speed query"));
-        assert!(!understood("speed 7 query"));
-        assert!(!understood("speed write 7"));
-        assert!(!understood("speed query -1"));
-        assert!(!understood("speed query 7 8"));
-        assert!(!understood("query 7"));
+        let speed = |load, sends| Some(Race { load, sends });
+        assert_eq!(race("speed query 7"), speed(Load::Query, 7));
+        assert_eq!(race("speed read 0"), speed(Load::Read, 0));
+        assert_eq!(race("speed"), None);
+        assert_eq!(race("speed query"), None);
+        assert_eq!(race("speed 7 query"), None);
+        assert_eq!(race("speed write 7"), None);
+        assert_eq!(race("speed query -1"), None);
+        assert_eq!(race("speed query 7 8"), None);
+        assert_eq!(race("query 7"), None);
     }
 
     #[test]
     fn only_the_right_arguments_are_understood() {
         assert!(understood("frames 1 q a"));
         assert!(understood("tags 1 q a"));
-        assert!(understood("fields 1 q a"));
         assert!(understood("frames 18446744073709551615 q a"));
         assert!(!understood("frames 18446744073709551616 q a"));
         assert!(!understood("frames x q a"));
         assert!(!understood("frames 1 q"));
         assert!(!understood("frames 1 q a b"));
         assert!(!understood("tags 1 q"));
-        assert!(!understood("fields 1 q"));
-        assert!(!understood("field 1 q a"));
         assert!(!understood("tag 1 q a"));
         assert!(!understood("words 1 q a"));
         assert!(!understood(""));
+    }
+
+    #[test]
+    fn fields_take_as_many_arguments() {
+        assert!(understood("fields 1 q a"));
+        assert!(!understood("fields 1 q"));
+        assert!(!understood("field 1 q a"));
     }
 }

@@ -1,4 +1,5 @@
-// What the generator's panel, which is C, calls: the check value, and the opening of a frame.
+// What the generator's panel, which is C, calls: the check value, and the opening of a frame. The crate panel_c exports
+// both.
 #![tactic(auto)]
 
 ghost use Rattle.std.specs.Prelude.{◌≡◌, ◌++◌, length, drop, if◌then◌else◌, nat_lt};
@@ -18,8 +19,7 @@ use protocol::refusal::Refusal;
 const SHOWN: usize = 15;
 
 // The check value of a message.
-#[unsafe(no_mangle)]
-pub extern "C" fn nolbashi_check_value(message: &[u8]) -> u16
+pub fn nolbashi_check_value(message: &[u8]) -> u16
     ensures { result ≡ check_value message.now }
 {
     check_value(message)
@@ -27,8 +27,7 @@ pub extern "C" fn nolbashi_check_value(message: &[u8]) -> u16
 
 // Opens a frame, and shows its code and its parameters in the first bytes of `shown`. Answers 0, or the number of the
 // refusal, and then nothing is changed.
-#[unsafe(no_mangle)]
-pub extern "C" fn nolbashi_open(frame: &[u8], shown: &mut [u8]) -> u8
+pub fn nolbashi_open(frame: &[u8], shown: &mut [u8]) -> u8
     ensures answer { result ≡ answering (opening frame.now) (length shown.old) }
     ensures shown { shown.new ≡ leaving (opening frame.now) shown.old }
 {
