@@ -137,14 +137,14 @@ fn all_used(table: &mut [Tag]) -> anyhow::Result<()> {
     }
 }
 
-fn with_pair(
+fn with_pair<'a, N: Field + Build<'a> + Drop>(
     rt: &HostRuntime,
     words: &mut Words<'_>,
-    table: &mut [Tag],
+    table: &'a mut [Tag],
     questions: &[String],
 ) -> Result<(), Trouble> {
-    let (left, rest) = Nesting::build(words, table)?;
-    let (right, rest) = Nesting::build(words, rest)?;
+    let (left, rest) = N::build(words, table)?;
+    let (right, rest) = N::build(words, rest)?;
     all_used(rest)?;
     match Pair::new(left, right) {
         Ok(pair) => Ok(ask_all(rt, pair, questions)?),
@@ -152,14 +152,14 @@ fn with_pair(
     }
 }
 
-fn with_spoiler(
+fn with_spoiler<'a, N: Field + Build<'a> + Drop>(
     rt: &HostRuntime,
     words: &mut Words<'_>,
-    table: &mut [Tag],
+    table: &'a mut [Tag],
     questions: &[String],
 ) -> Result<(), Trouble> {
     let period = words.period()?;
-    let (below, rest) = Nesting::build(words, table)?;
+    let (below, rest) = N::build(words, table)?;
     all_used(rest)?;
     match Spoiler::new(below, period) {
         Ok(spoiler) => Ok(ask_all(rt, spoiler, questions)?),
@@ -191,9 +191,9 @@ fn perform(
         at: 1,
     };
     let performed = if words.takes("pair") {
-        with_pair(rt, &mut words, table, questions)
+        with_pair::<Nesting>(rt, &mut words, table, questions)
     } else if words.takes("spoiler") {
-        with_spoiler(rt, &mut words, table, questions)
+        with_spoiler::<Nesting>(rt, &mut words, table, questions)
     } else {
         with_leaf(rt, &mut words, table, questions)
     };
