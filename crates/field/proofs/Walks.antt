@@ -1,14 +1,14 @@
 -- Laws of what a send and a gap do to a list of tags. Assumes nothing.
-use Rattle.std.proofs.Common.{◌≡◌, ℕ, zero, suc, ◌+◌, ◌*◌, ◌/◌, ◌%◌, ◌^◌, Bool, eqb, List, [], ◌∷◌, ◌++◌, map, length, Some, None, Option, sym, refl, ap, ◌∙◌, ap₂, div-one}
+use Rattle.std.proofs.Common.{◌≡◌, ℕ, zero, suc, ◌/◌, ◌%◌, ◌^◌, eqb, List, [], ◌∷◌, map, length, Some, sym, refl, ap, ◌∙◌, div-one}
 use native.Mathlib.Nat.{div-div-eq-div-mul, pow-succ'}
-use Rattle.std.proofs.lemmas.List.{length-map, map-append}
+use Rattle.std.proofs.lemmas.List.{length-map}
 use Rattle.std.specs.Option.{option_map}
 use Rattle.std.specs.List.{slice_get}
 use Rattle.frame.specs.Openings.{Opening}
 use Rattle.record.specs.declared.Tag.{Tag}
 use Rattle.record.specs.Gaps.{gapped}
 use Rattle.tag.specs.Steps.{stepped}
-use Rattle.field.specs.Sends.{coin_at, row_behind, stepped_all, gapped_all, InPlace}
+use Rattle.field.specs.Sends.{coin_at, stepped_all, gapped_all, InPlace}
 
 -- One place more is one halving more.
 pub halved : (row n : ℕ) → row / 2 / 2 ^ n ≡ row / 2 ^ suc n

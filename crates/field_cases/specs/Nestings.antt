@@ -1,5 +1,5 @@
 -- The tags that a nesting means: those of the field in it. Assumes nothing.
-use Rattle.std.specs.Prelude.{ℕ, ◌≤◌, Bool, true, false, ◌&&◌, List, [], ◌∷◌, length}
+use Rattle.std.specs.Prelude.{◌≤◌, List, [], ◌∷◌, length}
 use Rattle.std.proofs.Common.{lit≤}
 use Rattle.record.specs.declared.Tag.{Tag}
 use Rattle.bench.specs.Tables.{meant, meant_few}

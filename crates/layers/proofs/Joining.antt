@@ -1,5 +1,5 @@
 -- Two lists of tags as one: what a send does to both together is what it does to each. Assumes nothing.
-use Rattle.std.proofs.Common.{◌≡◌, ℕ, zero, suc, ◌+◌, ◌-◌, ◌/◌, ◌^◌, ◌<◌, ◌≤◌, Bool, true, false, cond, leb, List, [], ◌∷◌, ◌++◌, map, length, MatchBool, sym, refl, ap, ◌∙◌, subst, ap₂, div-one, arith, le-leb}
+use Rattle.std.proofs.Common.{◌≡◌, ℕ, zero, suc, ◌+◌, ◌-◌, ◌/◌, ◌<◌, ◌≤◌, Bool, true, false, cond, leb, List, [], ◌∷◌, ◌++◌, map, length, MatchBool, sym, refl, ap, ◌∙◌, subst, ap₂, div-one, arith, le-leb}
 use borrow.Author.Tests.{lt-leb}
 use Rattle.std.proofs.lemmas.List.{length-map, length-append, map-append}
 use Rattle.std.proofs.lemmas.Bool.{true≢false}
@@ -12,7 +12,7 @@ use Rattle.field.specs.declared.hearing.Hearing.{Hearing}
 use Rattle.field.specs.declared.sound.Sound.{Sound}
 use Rattle.field.specs.declared.sound.Sound.TheVariants.{Silence, Lone, Clash}
 use Rattle.field.specs.Airs.{Air, silent, one, many, mixed, voice, is_silent, plainly, hearing_of, blended, spoken, Tells}
-use Rattle.field.specs.Sends.{first_coin, row_behind, stepped_all, on_air, gapped_all, is_short, sent_to}
+use Rattle.field.specs.Sends.{first_coin, row_behind, stepped_all, on_air, is_short}
 use Rattle.field.proofs.Hearings.{mixed_assoc, mixed_silent}
 use Rattle.field.proofs.Walks.{halved, length-stepped}
 use Rattle.layers.specs.Pairs.{fits, paired, together, behind, Split}

@@ -1,6 +1,6 @@
 -- When two tags are alike: their records are equal in every part. Assumes nothing.
 use Rattle.std.proofs.Common.{◌≡◌, ℕ, Bool, true, false, ◌&&◌, ◌==◌, Some, None, Option, refl, sym, ap, arith}
-use Rattle.std.specs.Bool.{Decides, beq, one_answer}
+use Rattle.std.specs.Bool.{Decides, beq}
 use Rattle.std.specs.Option.{option_eq, option_len}
 use Rattle.std.specs.Cmp.{booleans_Decides, unsigned_Decides, IsPartialEquivalence, partial_equiv_from_equiv, decided}
 use Rattle.std.proofs.lemmas.Bool.Decides.{Decides-and}

@@ -5,7 +5,6 @@ use borrow.Author.Tests.{not-true, both_ways}
 use Rattle.std.proofs.lemmas.List.{length-set, get_or_past, get_or-set_same, get_or-set_other}
 use Rattle.std.proofs.lemmas.Bool.{true≢false, cases_lt, and_left, and_right, and_parts, or_right, or_parts}
 use Rattle.std.proofs.lemmas.Bool.Decides.{nat_tests, leb_tells, eqb_tells}
-use Rattle.protocol.specs.declared.command.Command.{Command}
 use Rattle.protocol.specs.declared.command.Command.TheVariants.{Select, UnselectNe, UnselectIdFlag, UnselectNoidFlag, Query, Scroll, Repeat, Reset, Read, Verify, Lock, Qlock, ReadFlexible, Write}
 use Rattle.protocol.specs.declared.command.Parameter.TheVariants.{Serial, Address, Mask, Data}
 use Rattle.frame.specs.Openings.{Opening, refused, opened}

@@ -1,6 +1,5 @@
-use Rattle.std.proofs.Common.{◌≡◌, List, ◌++◌, drop, Option, sym, refl, ap, ◌∙◌, subst}
+use Rattle.std.proofs.Common.{◌++◌, drop, sym, ap, ◌∙◌}
 use Rattle.std.specs.Option.{option_map}
-use Rattle.record.specs.declared.Tag.{Tag}
 use Rattle.field.specs.Airs.{spoken}
 use Rattle.field.specs.Sends.{padded}
 use Rattle.field.proofs.Buffers.{delivered}

@@ -1,4 +1,4 @@
-use Rattle.std.proofs.Common.{◌≡◌, length, ap, arith}
+use Rattle.std.proofs.Common.{◌≡◌, ap, arith}
 use Rattle.protocol.specs.declared.command.Entry.{Entry}
 use Rattle.protocol.specs.Commands.{length_of}
 use Rattle.frame.proofs.Limits.{bare_frames}

@@ -2,7 +2,7 @@ use Rattle.std.proofs.Common.{◌≡◌, ℕ, List, [], ◌∷◌, ◌++◌, len
 use Rattle.protocol.specs.Refusals.{told}
 use Rattle.frame.specs.Makings.{answering}
 use Rattle.frame.proofs.Trips.{opens_at}
-use Rattle.crc.specs.Check.{register, sealed}
+use Rattle.crc.specs.Check.{sealed}
 use Rattle.frame.proofs.Writes.{Holds, holds_more, holds-sealed}
 use Rattle.frame.proofs.making.lay.Goals as goal
 

@@ -1,7 +1,7 @@
 use Rattle.std.proofs.Common.{◌≡◌, ℕ, List, [], sym, refl, ap, ◌∙◌}
 use Rattle.frame.specs.Openings.{Opening, seen}
 use Rattle.record.specs.declared.Tag.{Tag}
-use Rattle.field.specs.Airs.{Air, silent, plainly}
+use Rattle.field.specs.Airs.{silent, plainly}
 use Rattle.field.specs.Sends.{stepped_all, on_air}
 use Rattle.bench.specs.Tables.{meant}
 use Rattle.bench.proofs.Tabled.{meant_none}

@@ -1,5 +1,5 @@
-use Rattle.std.proofs.Common.{◌≡◌, ℕ, Bool, false, cond, List, [], ◌++◌, length, drop, sym, refl, ap, ◌∙◌, subst, inl, inr, le-ltb}
-use Rattle.frame.specs.Openings.{Opening, opening, seen}
+use Rattle.std.proofs.Common.{◌≡◌, ℕ, false, List, ◌++◌, length, drop, sym, refl, ap, ◌∙◌, subst, inl, inr, le-ltb}
+use Rattle.frame.specs.Openings.{Opening, opening}
 use Rattle.record.specs.declared.Tag.{Tag}
 use Rattle.tag.specs.Steps.{stepped}
 use Rattle.field.specs.declared.hearing.Hearing.{Hearing}

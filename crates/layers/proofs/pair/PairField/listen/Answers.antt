@@ -1,4 +1,4 @@
-use Rattle.std.proofs.Common.{◌≡◌, ℕ, ◌+◌, ◌<◌, ◌≤◌, List, length, sym, ap, ◌∙◌, subst, arith, le-leb}
+use Rattle.std.proofs.Common.{ℕ, ◌+◌, ◌<◌, ◌≤◌, List, length, sym, ap, ◌∙◌, subst, arith, le-leb}
 use borrow.Author.Tests.{lt-leb}
 use Rattle.std.proofs.lemmas.Bool.{and_parts}
 use Rattle.frame.specs.Openings.{Opening, seen}
@@ -7,7 +7,7 @@ use Rattle.field.specs.declared.sound.Sound.{Sound}
 use Rattle.field.specs.Airs.{plainly, hearing_of, blended, Tells}
 use Rattle.field.specs.Sends.{row_behind, stepped_all, on_air}
 use Rattle.field.proofs.Walks.{length-stepped}
-use Rattle.layers.specs.Pairs.{fits, paired, Halves}
+use Rattle.layers.specs.Pairs.{fits, paired}
 use Rattle.layers.proofs.Joining.{paired_left, when-fits, when_crowded, right_after, both_tags, both_sound, both_plain, hearing_both}
 use Rattle.layers.proofs.pair.PairField.listen.Goals as goal
 
