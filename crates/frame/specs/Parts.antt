@@ -1,6 +1,6 @@
 -- Parameters in a frame. Assumes nothing.
 use Rattle.std.specs.Prelude.{◌≡◌, ℕ, ◌+◌, ◌≤◌, cond, List, [], ◌∷◌, length, take, drop, Some, None, Option, ◌==◌}
-use Rattle.std.specs.List.{flat_map, AllByRecursion as All}
+use Rattle.std.specs.List.{flat_map, AllByRecursion}
 use Rattle.protocol.specs.declared.command.Parameter.{Parameter}
 use Rattle.protocol.specs.declared.command.Parameter.TheVariants.{Serial, Address, Mask, Word, Data, Length, Ignored}
 use Rattle.frame.specs.declared.request.Span.{Span}
@@ -25,7 +25,7 @@ bytes_in parts = flat_map (λ p. p.bytes) parts
 -- Each part's bytes are those of the frame at its offset, and end before the check value.
 abbrev pub Within : List ℕ → List Part → Type 0
 Within frame parts =
-    All (λ p. (take (length p.bytes) (drop p.offset frame) ≡ p.bytes) × (p.offset + length p.bytes + 2 ≤ length frame)) parts
+    AllByRecursion (λ p. (take (length p.bytes) (drop p.offset frame) ≡ p.bytes) × (p.offset + length p.bytes + 2 ≤ length frame)) parts
 
 -- The parameters by number, in the order in which frames have them.
 abbrev pub place_of : Parameter → ℕ

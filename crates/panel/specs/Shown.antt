@@ -1,6 +1,6 @@
 -- What the panel is shown of a frame. Assumes nothing.
 use Rattle.std.specs.Prelude.{ℕ, ◌+◌, ◌<◌, cond, List, [], ◌∷◌, ◌++◌, length, drop, Some, None, Option, nat_lt}
-use Rattle.std.specs.List.{flat_map, AllByRecursion as All}
+use Rattle.std.specs.List.{flat_map, AllByRecursion}
 use Rattle.protocol.specs.declared.command.Parameter.TheVariants.{Serial, Address, Mask, Word, Data, Length, Ignored}
 use Rattle.frame.specs.declared.request.Span.{Span}
 use Rattle.frame.specs.Openings.{Opening, refused, opened}
@@ -33,4 +33,4 @@ leaving (opened code c parts) before = cond (nat_lt (length before) 15) before (
 
 -- Offsets and lengths are bytes.
 abbrev pub Small : List Part → Type 0
-Small parts = All (λ p. p.offset + length p.bytes < 256) parts
+Small parts = AllByRecursion (λ p. p.offset + length p.bytes < 256) parts
