@@ -147,19 +147,19 @@ pub when_crowded : (b : Bool) (P Q : Type 0) → b ≡ false → Q → MatchBool
 when_crowded b P Q e q = subst (λ (x : Bool). MatchBool x P Q) (sym e) q
 
 -- A send to both sides of a pair.
-module _ (frame : Opening) (row row_after : ℕ) (left right left_after right_after_send : List Tag) (few : length left + length right ≤ 64)
-    (shifted : row_after ≡ row_behind (length left) row) (on_left : left_after ≡ stepped_all frame row left)
-    (on_right : right_after_send ≡ stepped_all frame row_after right) where
-  pub after-length : length left_after ≡ length left
+module _ (frame : Opening) (row row_after : ℕ) (left right left_new right_new : List Tag) (few : length left + length right ≤ 64)
+    (shifted : row_after ≡ row_behind (length left) row) (on_left : left_new ≡ stepped_all frame row left)
+    (on_right : right_new ≡ stepped_all frame row_after right) where
+  pub after-length : length left_new ≡ length left
   after-length = ap length on_left ∙ length-stepped frame row left
 
-  pub after_both : paired left_after right_after_send ≡ left_after ++ right_after_send
-  after_both = paired_both left_after right_after_send (omega (arith, after-length, ap length on_right, length-stepped frame row_after right))
+  pub after_both : paired left_new right_new ≡ left_new ++ right_new
+  after_both = paired_both left_new right_new (omega (arith, after-length, ap length on_right, length-stepped frame row_after right))
 
-  pub right_after : right_after_send ≡ stepped_all frame (row_behind (length left) row) right
+  pub right_after : right_new ≡ stepped_all frame (row_behind (length left) row) right
   right_after = on_right ∙ ap (λ (k : ℕ). stepped_all frame k right) shifted
 
-  pub both_tags : paired left_after right_after_send ≡ stepped_all frame row (paired left right)
+  pub both_tags : paired left_new right_new ≡ stepped_all frame row (paired left right)
   both_tags =
       after_both ∙ ap₂ (λ (x : List Tag) (y : List Tag). x ++ y) on_left right_after ∙ sym (stepped-join frame row left right)
       ∙ ap (stepped_all frame row) (sym (paired_both left right few))
@@ -169,14 +169,14 @@ module _ (frame : Opening) (row row_after : ℕ) (left right left_after right_af
       ap (λ (k : ℕ). mixed (on_air frame row left) (on_air frame k right)) shifted ∙ sym (air-join frame row left right)
       ∙ ap (on_air frame row) (sym (paired_both left right few))
 
-  pub both_sound : (s o r : Sound) (places : ℕ) → places ≡ length left → r ≡ blended s (behind places o) → Tells s left_after (on_air frame row left)
-      → Tells o right_after_send (on_air frame row_after right) → Tells r (paired left_after right_after_send) (on_air frame row (paired left right))
+  pub both_sound : (s o r : Sound) (places : ℕ) → places ≡ length left → r ≡ blended s (behind places o) → Tells s left_new (on_air frame row left)
+      → Tells o right_new (on_air frame row_after right) → Tells r (paired left_new right_new) (on_air frame row (paired left right))
   both_sound s o r places e blend from_left from_right =
-      let here : r ≡ blended s (behind (length left_after) o) = blend ∙ ap (λ (n : ℕ). blended s (behind n o)) (e ∙ sym after-length) in
-      subst (λ (x : Sound). Tells x (paired left_after right_after_send) (on_air frame row (paired left right))) (sym here)
-      (subst (λ (ts : List Tag). Tells (blended s (behind (length left_after) o)) ts (on_air frame row (paired left right))) (sym after_both)
-      (subst (λ (a : Air). Tells (blended s (behind (length left_after) o)) (left_after ++ right_after_send) a) both_air
-      (tells_both s o left_after right_after_send (on_air frame row left) (on_air frame row_after right) from_left from_right)))
+      let here : r ≡ blended s (behind (length left_new) o) = blend ∙ ap (λ (n : ℕ). blended s (behind n o)) (e ∙ sym after-length) in
+      subst (λ (x : Sound). Tells x (paired left_new right_new) (on_air frame row (paired left right))) (sym here)
+      (subst (λ (ts : List Tag). Tells (blended s (behind (length left_new) o)) ts (on_air frame row (paired left right))) (sym after_both)
+      (subst (λ (a : Air). Tells (blended s (behind (length left_new) o)) (left_new ++ right_new) a) both_air
+      (tells_both s o left_new right_new (on_air frame row left) (on_air frame row_after right) from_left from_right)))
 
   pub both_plain : (h a b : Hearing) → h ≡ together a b → a ≡ plainly (on_air frame row left) → b ≡ plainly (on_air frame row_after right)
       → h ≡ plainly (on_air frame row (paired left right))

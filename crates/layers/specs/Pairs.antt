@@ -41,9 +41,9 @@ behind places sound.Clash = sound.Clash
 
 -- What the sides of a pair do with a frame: each steps its own tags, the right ones with the coins behind the left's
 -- places, and hears what its kind hears.
-pub record Halves (frame : Opening) (row : ℕ) (left right left_after right_after_send : List Tag) (of_left of_right : Hearing → Type 0) (h : Hearing) : Type 0 where
-  pub left_tags : left_after ≡ stepped_all frame row left
-  pub right_tags : right_after_send ≡ stepped_all frame (row_behind (length left) row) right
+pub record Halves (frame : Opening) (row : ℕ) (left right left_new right_new : List Tag) (of_left of_right : Hearing → Type 0) (h : Hearing) : Type 0 where
+  pub left_tags : left_new ≡ stepped_all frame row left
+  pub right_tags : right_new ≡ stepped_all frame (row_behind (length left) row) right
   pub heard_left : Hearing
   pub heard_right : Hearing
   pub left_hears : of_left heard_left

@@ -38,8 +38,8 @@ returns g c =
     let row = c.args.row in
     let left : List Tag = g.L.Field.tags c.args.self.now.left in
     let right : List Tag = g.R.Field.tags c.args.self.now.right in
-    let left_after : List Tag = g.L.Field.tags c.listen-sound.new.self in
-    let right_after_send : List Tag = g.R.Field.tags c.listen-other.new.self in
+    let left_new : List Tag = g.L.Field.tags c.listen-sound.new.self in
+    let right_new : List Tag = g.R.Field.tags c.listen-other.new.self in
     let s : Sound = c.listen-sound.result in
     let o : Sound = c.listen-other.result in
     let few : length left + length right ≤ 64 = omega (arith, c.places-left.ensures, c.places-right.ensures, c.if-left-right-gt-PLACES.false) in
@@ -50,16 +50,16 @@ returns g c =
     let on_right = c.listen-other.ensures.tags in
     let row_after : ℕ = c.row_behind.result in
     record {
-      tags = both_tags frame row row_after left right left_after right_after_send few shifted on_left on_right;
-      sound = both_sound frame row row_after left right left_after right_after_send few shifted on_left on_right s o c.blend.result c.places-left.result
+      tags = both_tags frame row row_after left right left_new right_new few shifted on_left on_right;
+      sound = both_sound frame row row_after left right left_new right_new few shifted on_left on_right s o c.blend.result c.places-left.result
           c.places-left.ensures blend c.listen-sound.ensures.sound c.listen-other.ensures.sound;
-      faithful = λ f. both_plain frame row row_after left right left_after right_after_send few shifted on_left on_right (hearing_of c.blend.result) (hearing_of s) (hearing_of o) both
+      faithful = λ f. both_plain frame row row_after left right left_new right_new few shifted on_left on_right (hearing_of c.blend.result) (hearing_of s) (hearing_of o) both
           (c.listen-sound.ensures.faithful (and_parts g.L.Field.faithful g.R.Field.faithful f).0)
           (c.listen-other.ensures.faithful (and_parts g.L.Field.faithful g.R.Field.faithful f).1);
       kind = when-fits (fits left right) _ _ (le-leb (length left + length right) 64 few)
           record {
             left_tags = on_left;
-            right_tags = right_after frame row row_after left right left_after right_after_send few shifted on_left on_right;
+            right_tags = right_after frame row row_after left right left_new right_new few shifted on_left on_right;
             heard_left = hearing_of s;
             heard_right = hearing_of o;
             left_hears = c.listen-sound.ensures.kind;
