@@ -1,36 +1,19 @@
 -- Laws of the commands: looking a code up, and how long a frame can be. Assumes nothing.
-use Rattle.std.proofs.Common.{◌≡◌, ℕ, ◌+◌, ◌<◌, ◌≤◌, Bool, true, false, cond, eqb, List, [], ◌∷◌, map, length, get_or, drop, Some, None, Option, sym, refl, ap, ◌∙◌, arith, lit≤}
+use Rattle.std.proofs.Common.{◌≡◌, ℕ, ◌≤◌, Bool, true, false, cond, eqb, ◌==◌, List, [], ◌∷◌, map, find, Some, None, Option, sym, refl, ap, ◌∙◌, arith, lit≤}
 use Rattle.std.specs.Option.{option_map}
-use Rattle.std.proofs.lemmas.List.{at_drop_more}
-use Rattle.std.proofs.lemmas.Bool.{eqb-true, eq-eqb, ne_eqb, cond-true, cond-false}
+use Rattle.std.proofs.lemmas.Bool.{eqb-true}
 use Rattle.protocol.specs.declared.command.Command.{Command}
 use Rattle.protocol.specs.declared.command.Command.TheVariants.{Select, UnselectNe, UnselectIdFlag, UnselectNoidFlag, Query, Scroll, Repeat, Reset, Read, Verify, Lock, Qlock, ReadFlexible, Write}
 use Rattle.protocol.specs.declared.command.Entry.{Entry}
-use Rattle.protocol.specs.Commands.{code_of, length_of, commands, named, entry_of, first_named, first_entry}
-
-module _ (code : ℕ) (es : List Entry) (i : ℕ) (d : Entry) (within : i < length es) where
-  at_place : first_entry code (drop i es) ≡ cond (eqb (get_or es i d).code code) (Some (get_or es i d)) (first_entry code (drop (i + 1) es))
-  unfolding first_entry
-  at_place = at_drop_more (first_entry code) es i d within
-
-  pub hit : (get_or es i d).code ≡ code → first_entry code (drop i es) ≡ Some (get_or es i d)
-  hit e = at_place ∙ cond-true _ _ _ (eq-eqb (get_or es i d).code code e)
-
-  pub miss : ((get_or es i d).code ≡ code → ⊥) → first_entry code (drop i es) ≡ first_entry code (drop (i + 1) es)
-  miss e = at_place ∙ cond-false _ _ _ (ne_eqb (get_or es i d).code code e)
-
-pub none_left : (code : ℕ) → first_entry code [] ≡ None
-unfolding first_entry
-none_left code = refl
+use Rattle.protocol.specs.Commands.{code_of, length_of, commands, named, entry_of, first_entry}
 
 -- A table that says of each command what is so is looked through as the commands are.
-pub told : (code : ℕ) (cs : List Command) → first_entry code (map entry_of cs) ≡ option_map entry_of (first_named code cs)
-unfolding first_entry first_named
+pub told : (code : ℕ) (cs : List Command) → first_entry code (map entry_of cs) ≡ option_map entry_of (find (λ c. code_of c == code) cs)
 told code [] = refl
-told code (c ∷ cs) = either (eqb (code_of c) code) (told code cs)
+told code (c ∷ cs) = either (code_of c == code) (told code cs)
   where
-    either : (b : Bool) → first_entry code (map entry_of cs) ≡ option_map entry_of (first_named code cs)
-        → cond b (Some (entry_of c)) (first_entry code (map entry_of cs)) ≡ option_map entry_of (cond b (Some c) (first_named code cs))
+    either : (b : Bool) → first_entry code (map entry_of cs) ≡ option_map entry_of (find (λ c. code_of c == code) cs)
+        → cond b (Some (entry_of c)) (first_entry code (map entry_of cs)) ≡ option_map entry_of (cond b (Some c) (find (λ c. code_of c == code) cs))
     either true e = refl
     either false e = e
 
@@ -54,13 +37,12 @@ pub found_some : (code : ℕ) (e : Entry) → Some e ≡ first_entry code (map e
 unfolding named
 found_some code e p = some_mapped (named code) e (p ∙ told code commands)
 
-first_code : (code : ℕ) (c d : Command) (ds : List Command) → (first_named code ds ≡ Some c → code_of c ≡ code) → (b : Bool) → eqb (code_of d) code ≡ b
-    → cond b (Some d) (first_named code ds) ≡ Some c → code_of c ≡ code
+first_code : (code : ℕ) (c d : Command) (ds : List Command) → (find (λ c. code_of c == code) ds ≡ Some c → code_of c ≡ code) → (b : Bool) → eqb (code_of d) code ≡ b
+    → cond b (Some d) (find (λ c. code_of c == code) ds) ≡ Some c → code_of c ≡ code
 first_code code c d ds later true t q = let same : d ≡ c = cc in ap code_of (sym same) ∙ eqb-true (code_of d) code t
 first_code code c d ds later false t q = later q
 
-first_named_code : (code : ℕ) (c : Command) (cs : List Command) → first_named code cs ≡ Some c → code_of c ≡ code
-unfolding first_named
+first_named_code : (code : ℕ) (c : Command) (cs : List Command) → find (λ c. code_of c == code) cs ≡ Some c → code_of c ≡ code
 first_named_code code c [] e = absurd (let z : ◌≡◌ {A = ℕ} 0 1 = cc in omega arith)
 first_named_code code c (d ∷ ds) e = first_code code c d ds (first_named_code code c ds) (eqb (code_of d) code) refl e
 

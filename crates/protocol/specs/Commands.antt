@@ -1,5 +1,5 @@
 -- The fourteen commands: their codes, their parameters in order, and the length of a frame. Assumes nothing.
-use Rattle.std.specs.Prelude.{ℕ, ◌+◌, cond, List, [], ◌∷◌, Some, None, Option, ◌==◌}
+use Rattle.std.specs.Prelude.{ℕ, ◌+◌, List, [], ◌∷◌, find, Option, ◌==◌}
 use Rattle.protocol.specs.declared.command.Command.{Command}
 use Rattle.protocol.specs.declared.command.Command.TheVariants.{Select, UnselectNe, UnselectIdFlag, UnselectNoidFlag, Query, Scroll, Repeat, Reset, Read, Verify, Lock, Qlock, ReadFlexible, Write}
 use Rattle.protocol.specs.declared.command.Parameter.{Parameter}
@@ -61,19 +61,14 @@ abbrev pub commands : List Command
 commands =
     Select ∷ UnselectNe ∷ UnselectIdFlag ∷ UnselectNoidFlag ∷ Query ∷ Scroll ∷ Repeat ∷ Reset ∷ Read ∷ Verify ∷ Lock ∷ Qlock ∷ ReadFlexible ∷ Write ∷ []
 
-unfoldable pub first_named : ℕ → List Command → Option Command
-first_named code [] = None
-first_named code (c ∷ cs) = cond (code_of c == code) (Some c) (first_named code cs)
-
 -- The command with a code, if there is one.
 unfoldable pub named : ℕ → Option Command
-named code = first_named code commands
+named code = find (λ c. code_of c == code) commands
 
 -- What a table of commands says of one.
 abbrev pub entry_of : Command → Entry
 entry_of c = record { command = c; code = code_of c; length = length_of c }
 
 -- The first entry of a table with a code.
-unfoldable pub first_entry : ℕ → List Entry → Option Entry
-first_entry code [] = None
-first_entry code (e ∷ es) = cond (e.code == code) (Some e) (first_entry code es)
+abbrev pub first_entry : ℕ → List Entry → Option Entry
+first_entry code entries = find (λ e. e.code == code) entries

@@ -1,9 +1,11 @@
--- The names of commands and parameters. Assumes nothing.
+-- The names of commands, parameters and refusals. Assumes nothing.
 use Rattle.std.specs.Prelude.{ℕ, List, codes}
 use Rattle.protocol.specs.declared.command.Command.{Command}
 use Rattle.protocol.specs.declared.command.Command.TheVariants.{Select, UnselectNe, UnselectIdFlag, UnselectNoidFlag, Query, Scroll, Repeat, Reset, Read, Verify, Lock, Qlock, ReadFlexible, Write}
 use Rattle.protocol.specs.declared.command.Parameter.{Parameter}
 use Rattle.protocol.specs.declared.command.Parameter.TheVariants.{Serial, Address, Mask, Word, Data, Length, Ignored}
+use Rattle.protocol.specs.declared.refusal.Refusal.{Refusal}
+use Rattle.protocol.specs.declared.refusal.Refusal.TheVariants as refusal
 
 abbrev pub command_name : Command → List ℕ
 command_name Select = codes "SELECT"
@@ -29,3 +31,10 @@ parameter_name Word = codes "WORD_DATA"
 parameter_name Data = codes "BLOCK_DATA"
 parameter_name Length = codes "LENGTH"
 parameter_name Ignored = codes "IGNORED"
+
+abbrev pub refusal_name : Refusal → List ℕ
+refusal_name refusal.Stub = codes "stub"
+refusal_name refusal.Check = codes "check"
+refusal_name refusal.Code = codes "code"
+refusal_name refusal.Length = codes "length"
+refusal_name refusal.Buffer = codes "buffer"

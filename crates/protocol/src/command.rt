@@ -1,23 +1,23 @@
 // The fourteen commands of the chip SL3ICS31, with their codes and the lengths of their frames.
 ghost use Rattle.std.specs.Prelude.{◌≡◌, map};
-ghost use Rattle.protocol.specs.Commands.{commands, entry_of, first_entry};
+ghost use Rattle.protocol.specs.Commands.{code_of, commands, entry_of, first_entry};
 
 #[derive(Clone, Copy, PartialEq, Eq, Debug)]
 pub enum Command {
-    Select,
-    UnselectNe,
-    UnselectIdFlag,
-    UnselectNoidFlag,
-    Query,
-    Scroll,
-    Repeat,
-    Reset,
-    Read,
-    Verify,
-    Lock,
-    Qlock,
-    ReadFlexible,
-    Write,
+    Select = 0x00,
+    UnselectNe = 0x05,
+    UnselectIdFlag = 0x19,
+    UnselectNoidFlag = 0x1a,
+    Query = 0x08,
+    Scroll = 0x09,
+    Repeat = 0x15,
+    Reset = 0x0a,
+    Read = 0x0c,
+    Verify = 0x1d,
+    Lock = 0x0f,
+    Qlock = 0x11,
+    ReadFlexible = 0x51,
+    Write = 0x1b,
 }
 
 // What stands behind the code in a frame.
@@ -62,75 +62,83 @@ pub struct Entry {
 pub const COMMANDS: [Entry; 14] = [
     Entry {
         command: Command::Select,
-        code: 0x00,
+        code: Command::Select as u8,
         length: 13,
     },
     Entry {
         command: Command::UnselectNe,
-        code: 0x05,
+        code: Command::UnselectNe as u8,
         length: 13,
     },
     Entry {
         command: Command::UnselectIdFlag,
-        code: 0x19,
+        code: Command::UnselectIdFlag as u8,
         length: 5,
     },
     Entry {
         command: Command::UnselectNoidFlag,
-        code: 0x1a,
+        code: Command::UnselectNoidFlag as u8,
         length: 5,
     },
     Entry {
         command: Command::Query,
-        code: 0x08,
+        code: Command::Query as u8,
         length: 3,
     },
     Entry {
         command: Command::Scroll,
-        code: 0x09,
+        code: Command::Scroll as u8,
         length: 3,
     },
     Entry {
         command: Command::Repeat,
-        code: 0x15,
+        code: Command::Repeat as u8,
         length: 3,
     },
     Entry {
         command: Command::Reset,
-        code: 0x0a,
+        code: Command::Reset as u8,
         length: 3,
     },
     Entry {
         command: Command::Read,
-        code: 0x0c,
+        code: Command::Read as u8,
         length: 12,
     },
     Entry {
         command: Command::Verify,
-        code: 0x1d,
+        code: Command::Verify as u8,
         length: 12,
     },
     Entry {
         command: Command::Lock,
-        code: 0x0f,
+        code: Command::Lock as u8,
         length: 12,
     },
     Entry {
         command: Command::Qlock,
-        code: 0x11,
+        code: Command::Qlock as u8,
         length: 12,
     },
     Entry {
         command: Command::ReadFlexible,
-        code: 0x51,
+        code: Command::ReadFlexible as u8,
         length: 13,
     },
     Entry {
         command: Command::Write,
-        code: 0x1b,
+        code: Command::Write as u8,
         length: 17,
     },
 ];
+
+impl From<Command> for u8 {
+    ghost from_gives = { λ command code. code ≡ code_of command };
+
+    fn from(command: Command) -> u8 {
+        command as u8
+    }
+}
 
 // The entry of a code, if a command has it.
 pub fn find(code: u8) -> Option<Entry>
@@ -143,10 +151,5 @@ pub fn find(code: u8) -> Option<Entry>
 fn first_entry(code: u8, entries: &[Entry]) -> Option<Entry>
     ensures { result ≡ first_entry code entries.now }
 {
-    for entry in entries {
-        if entry.code == code {
-            return Some(*entry);
-        }
-    }
-    None
+    entries.iter().copied().find(|entry| entry.code == code)
 }

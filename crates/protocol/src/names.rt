@@ -48,8 +48,7 @@ impl fmt::Display for Command {
     ghost output = { λ c. Some (command_name c) };
 
     fn fmt<W: fmt::Write>(&self, f: &mut fmt::Formatter<W>) -> fmt::Result {
-        let name = self.name();
-        write!(f, "{name}")
+        f.pad(self.name())
     }
 }
 
@@ -57,7 +56,6 @@ impl fmt::Display for Parameter {
     ghost output = { λ p. Some (parameter_name p) };
 
     fn fmt<W: fmt::Write>(&self, f: &mut fmt::Formatter<W>) -> fmt::Result {
-        let name = self.name();
-        write!(f, "{name}")
+        f.pad(self.name())
     }
 }

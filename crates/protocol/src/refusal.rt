@@ -1,20 +1,24 @@
 // Why a call is refused.
-ghost use Rattle.std.specs.Prelude.{◌≡◌};
+ghost use Rattle.std.specs.Prelude.{◌≡◌, Some};
+ghost use Rattle.protocol.specs.Names.{refusal_name};
 ghost use Rattle.protocol.specs.Refusals.{number_of};
+
+use std::error::Error;
+use std::fmt;
 
 // The refusals, each with its number.
 #[derive(Clone, Copy, PartialEq, Eq, Debug)]
 pub enum Refusal {
     // A frame of fewer than three bytes.
-    Stub,
+    Stub = 1,
     // A wrong check value.
-    Check,
+    Check = 2,
     // A code that no command has.
-    Code,
+    Code = 3,
     // A length that the code's command does not have.
-    Length,
+    Length = 4,
     // A buffer that is too short.
-    Buffer,
+    Buffer = 5,
 }
 
 impl Refusal {
@@ -22,12 +26,30 @@ impl Refusal {
     pub fn number(self) -> u8
         ensures { result ≡ number_of self }
     {
-        match self {
-            Refusal::Stub => 1,
-            Refusal::Check => 2,
-            Refusal::Code => 3,
-            Refusal::Length => 4,
-            Refusal::Buffer => 5,
-        }
+        self as u8
     }
 }
+
+impl From<Refusal> for u8 {
+    ghost from_gives = { λ refusal number. number ≡ number_of refusal };
+
+    fn from(refusal: Refusal) -> u8 {
+        refusal.number()
+    }
+}
+
+impl fmt::Display for Refusal {
+    ghost output = { λ refusal. Some (refusal_name refusal) };
+
+    fn fmt<W: fmt::Write>(&self, f: &mut fmt::Formatter<W>) -> fmt::Result {
+        f.pad(match self {
+            Refusal::Stub => "stub",
+            Refusal::Check => "check",
+            Refusal::Code => "code",
+            Refusal::Length => "length",
+            Refusal::Buffer => "buffer",
+        })
+    }
+}
+
+impl Error for Refusal {}

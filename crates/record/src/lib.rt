@@ -6,8 +6,10 @@ ghost use Rattle.record.specs.Records.{byte_at, locked_at, serial_of, mark_numbe
 ghost use Rattle.record.specs.Alike.{alike, alike_partial_equivalence};
 
 pub mod gap;
+pub mod marks;
 mod masks;
 pub mod names;
+pub mod unknown;
 
 // How many bytes a tag has: addresses 00 to 37.
 pub const SIZE: usize = 56;
@@ -31,9 +33,9 @@ pub enum State {
 // For how many frames more a tag knows that it was written or locked.
 #[derive(Clone, Copy, PartialEq, Eq, Debug)]
 pub enum WriteMark {
-    Clear,
-    Fading,
-    Fresh,
+    Clear = 0,
+    Fading = 1,
+    Fresh = 2,
 }
 
 // The record of a tag. Each value of these types is one that a tag can have, so every part is open to its owner.
@@ -57,11 +59,7 @@ impl WriteMark {
     pub fn number(self) -> u8
         ensures { result ≡ mark_number self }
     {
-        match self {
-            WriteMark::Clear => 0,
-            WriteMark::Fading => 1,
-            WriteMark::Fresh => 2,
-        }
+        self as u8
     }
 
     // One less, if it is not 0.

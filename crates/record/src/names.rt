@@ -1,9 +1,11 @@
-// The names of a tag's states.
+// The names of a tag's states, told and read.
 ghost use Rattle.std.specs.Prelude.{◌≡◌, Some};
-ghost use Rattle.record.specs.Names.{state_name};
+ghost use Rattle.record.specs.Names.{state_name, Named};
 
 use crate::State;
+use crate::unknown::Unknown;
 use std::fmt;
+use std::str::FromStr;
 
 impl State {
     pub fn name(self) -> &'static str
@@ -21,7 +23,21 @@ impl fmt::Display for State {
     ghost output = { λ s. Some (state_name s) };
 
     fn fmt<W: fmt::Write>(&self, f: &mut fmt::Formatter<W>) -> fmt::Result {
-        let name = self.name();
-        write!(f, "{name}")
+        f.pad(self.name())
+    }
+}
+
+impl FromStr for State {
+    type Err = Unknown;
+
+    ghost from_str_gives = { Named };
+
+    fn from_str(text: &str) -> Result<State, Unknown> {
+        match text {
+            "READY" => Ok(State::Ready),
+            "SINGULATION" => Ok(State::Singulation),
+            "INVENTORIED" => Ok(State::Inventoried),
+            _ => Err(Unknown::State),
+        }
     }
 }
