@@ -3,6 +3,7 @@
 -- Assumes nothing.
 use Rattle.std.proofs.Common.{◌≡◌, ℕ, zero, suc, ◌+◌, ◌-◌, ◌*◌, ◌/◌, ◌%◌, ◌^◌, ◌<◌, ◌≤◌, ltb, List, [], ◌∷◌, ◌++◌, fold, sym, refl, ap, ◌∙◌, subst, ap₂, ⊎_elim, mul_assoc, mul_comm, add-mul, mul-lt-mul_of_pos_right, pow-suc, div-add-mod', arith, pow_pos}
 use lib.Bits.{bit_xor, differ, xor_block, xor_shifted, xor_lt, xor_assoc, xor_comm, xor_zero_r, xor_step}
+use Rattle.std.proofs.lemmas.List.Sums.{fold-append}
 use Rattle.std.proofs.lemmas.Bool.{lt-ltb, le-ltb, cond-true, cond-false, cases_lt}
 use Rattle.crc.specs.Check.{moved, bit_taken, bits, byte_taken, sent}
 
@@ -169,10 +170,6 @@ pub folded_fits : (r : ℕ) (message : List ℕ) → r < 0x10000 → fold byte_t
 folded_fits r [] h = h
 folded_fits r (x ∷ xs) h = folded_fits (byte_taken r x) xs (byte_taken-fits r x h)
 
-pub folded-append : {X Y : Type 0} (f : Y → X → Y) (y : Y) (xs zs : List X) → fold f y (xs ++ zs) ≡ fold f (fold f y xs) zs
-folded-append f y [] zs = refl
-folded-append f y (x ∷ xs) zs = folded-append f (f y x) xs zs
-
 -- Two bytes meet the register at once.
 two-met : (r h l : ℕ) → r < 0x10000 → h < 256 → l < 256
     → byte_taken (byte_taken r h) l ≡ times 8 (times 8 (bit_xor r (h * 256 + l)))
@@ -195,5 +192,5 @@ residue_from r hr =
 -- A message, and the register that it leaves, inverted, lead to one fixed value.
 pub residue : (r : ℕ) (message : List ℕ) → r < 0x10000 → fold byte_taken r (message ++ sent (0xffff - fold byte_taken r message)) ≡ 0x1d0f
 residue r message h =
-    folded-append byte_taken r message (sent (0xffff - fold byte_taken r message))
+    fold-append byte_taken r message (sent (0xffff - fold byte_taken r message))
     ∙ residue_from (fold byte_taken r message) (folded_fits r message h)

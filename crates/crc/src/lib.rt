@@ -1,11 +1,12 @@
 // The check value of frames and replies.
 #![tactic(auto)]
 
-ghost use Rattle.std.specs.Prelude.{◌≡◌, ◌-◌, ◌++◌, if◌then◌else◌, fold};
+ghost use Rattle.std.specs.Prelude.{◌≡◌, ℕ, ◌-◌, ◌++◌, if◌then◌else◌, fold};
 ghost use Rattle.crc.specs.Check.{bit_taken, byte_taken, register, check_value, sent};
 
 mod table;
 
+use std::marker::Model;
 use table::FROM_EMPTY;
 
 // The polynomial, without its highest term.
@@ -26,38 +27,47 @@ pub struct Register {
     value: u16,
 }
 
+// To its users a register is the number that it holds.
+impl Model for Register {
+    ghost Value = { ℕ };
+
+    ghost view = { λ r. r.value };
+
+    ghost inverse = { λ n. record { value = n } };
+}
+
 impl Register {
     // The register before any bit: all ones.
     pub fn preset() -> Register
-        ensures { result.value ≡ 0xffff }
+        ensures { result ≡ 0xffff }
     {
         Register { value: PRESET }
     }
 
     // One more bit, for who takes a message off the air.
     pub fn take_bit(&mut self, bit: bool)
-        ensures { self.new.value ≡ bit_taken self.old.value (if bit then 1 else 0) }
+        ensures { self.new ≡ bit_taken self.old (if bit then 1 else 0) }
     {
         self.value = after_bit(self.value, bit);
     }
 
     // One more byte, its highest bit first.
     pub fn take_byte(&mut self, byte: u8)
-        ensures { self.new.value ≡ byte_taken self.old.value byte }
+        ensures { self.new ≡ byte_taken self.old byte }
     {
         self.value = after_byte(self.value, byte);
     }
 
     // Some more bytes.
     pub fn take(&mut self, bytes: &[u8])
-        ensures { self.new.value ≡ fold byte_taken self.old.value bytes.now }
+        ensures { self.new ≡ fold byte_taken self.old bytes.now }
     {
         self.value = after_bytes(self.value, bytes);
     }
 
     // The check value of what went through: the register inverted.
     pub fn check_value(&self) -> u16
-        ensures { result ≡ 0xffff - self.now.value }
+        ensures { result ≡ 0xffff - self.now }
     {
         ONES - self.value
     }
@@ -77,11 +87,9 @@ fn after_bytes(register: u16, bytes: &[u8]) -> u16
     ensures value { result ≡ fold byte_taken register bytes.now }
     ensures residue { fold byte_taken register (bytes.now ++ sent (0xffff - result)) ≡ 0x1d0f }
 {
-    let mut value = register;
-    for byte in bytes {
-        value = after_byte(value, *byte);
-    }
-    value
+    bytes
+        .iter()
+        .fold(register, |value, byte| after_byte(value, *byte))
 }
 
 // The eight bits at once: the byte meets the register's upper half, and the lower half moves up whole.

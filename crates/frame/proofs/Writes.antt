@@ -4,7 +4,7 @@ use borrow.Author.Tests.{true-leb, le-true}
 use lib.Seq.{drop-append-add}
 use Rattle.std.proofs.lemmas.List.{take_at, drop-drop, length-append, length-drop, length-take-le, take-append-drop}
 use Rattle.crc.specs.Check.{register, byte_taken, sent, sealed}
-use Rattle.crc.proofs.Moves.{folded-append}
+use Rattle.std.proofs.lemmas.List.Sums.{fold-append}
 use Rattle.frame.specs.declared.writer.Writer.{Writer}
 use Rattle.frame.specs.Writing.{Put, laid}
 
@@ -55,6 +55,7 @@ put_none w h =
       register = refl;
       buffer = sym (take-append-drop w.filled w.buffer.now)
           ∙ ap (λ (n : ℕ). take w.filled w.buffer.now ++ drop n w.buffer.now) (omega arith);
+      lender = refl;
     }
 
 -- Bytes that were put one behind the other were put at once.
@@ -68,27 +69,28 @@ put_more w v u some more p q =
     record {
       fits = le-true (w.filled + length (some ++ more)) (length w.buffer.now) (omega arith);
       filled = q.filled ∙ omega arith;
-      register = q.register ∙ ap (λ (x : ℕ). fold byte_taken x more) p.register ∙ sym (folded-append byte_taken w.register.value some more);
+      register = q.register ∙ ap (λ (x : ℕ). fold byte_taken x more) p.register ∙ sym (fold-append byte_taken w.register some more);
       buffer = q.buffer ∙ ap₂ (λ (b : List ℕ) (n : ℕ). laid b n more) p.buffer after
           ∙ laid-laid w.buffer.now w.filled some more first;
+      lender = q.lender ∙ p.lender;
     }
 
 -- The writer has put `front` into a buffer that was `buffer`.
 pub record Holds (w : Writer) (buffer front : List ℕ) : Type 0 where
   pub bytes : w.buffer.now ≡ front ++ drop (length front) buffer
   pub count : w.filled ≡ length front
-  pub over : w.register.value ≡ register front
+  pub over : w.register ≡ register front
 
 pub holds_more : (w v : Writer) (buffer front more : List ℕ) → Holds w buffer front → Put more w v true → Holds v buffer (front ++ more)
 holds_more w v buffer front more h p =
     record {
       bytes = p.buffer ∙ ap₂ (λ (b : List ℕ) (k : ℕ). laid b k more) h.bytes h.count ∙ laid-behind buffer front more;
       count = p.filled ∙ ap (λ (k : ℕ). k + length more) h.count ∙ sym (length-append front more);
-      over = p.register ∙ ap (λ (x : ℕ). fold byte_taken x more) h.over ∙ sym (folded-append byte_taken 0xffff front more);
+      over = p.register ∙ ap (λ (x : ℕ). fold byte_taken x more) h.over ∙ sym (fold-append byte_taken 0xffff front more);
     }
 
-pub holds-sealed : (w v : Writer) (buffer front : List ℕ) → Holds w buffer front → Put (sent (0xffff - w.register.value)) w v true
+pub holds-sealed : (w v : Writer) (buffer front : List ℕ) → Holds w buffer front → Put (sent (0xffff - w.register)) w v true
     → Holds v buffer (sealed front)
 unfolding sealed
 holds-sealed w v buffer front h p =
-    subst (Holds v buffer) (ap (λ (x : ℕ). front ++ sent (0xffff - x)) h.over) (holds_more w v buffer front (sent (0xffff - w.register.value)) h p)
+    subst (Holds v buffer) (ap (λ (x : ℕ). front ++ sent (0xffff - x)) h.over) (holds_more w v buffer front (sent (0xffff - w.register)) h p)

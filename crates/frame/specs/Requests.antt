@@ -1,22 +1,22 @@
 -- What a request of the code says: its command, and its parameters in their order. Assumes nothing.
-use Rattle.std.specs.Prelude.{List, [], ◌∷◌, ◌++◌}
+use Rattle.std.specs.Prelude.{ℕ, List, [], ◌∷◌, ◌++◌}
+use Rattle.std.specs.Borrow.{Bor}
 use Rattle.protocol.specs.declared.command.Command.TheVariants as command
 use Rattle.protocol.specs.declared.command.Command.{Command}
 use Rattle.protocol.specs.declared.command.Parameter.{Parameter}
 use Rattle.protocol.specs.declared.command.Parameter.TheVariants.{Serial, Address, Mask, Word, Data, Length, Ignored}
-use Rattle.frame.specs.declared.request.ByteAt.{ByteAt}
-use Rattle.frame.specs.declared.request.BytesAt.{BytesAt}
+use Rattle.frame.specs.declared.request.At.{At}
 use Rattle.frame.specs.declared.request.Comparison.{Comparison}
 use Rattle.frame.specs.declared.request.Target.{Target}
 use Rattle.frame.specs.declared.request.Request.{Request}
 use Rattle.frame.specs.declared.request.Request.TheVariants.{Select, UnselectNe, UnselectIdFlag, UnselectNoidFlag, Query, Scroll, Repeat, Reset, Read, Verify, Lock, Qlock, ReadFlexible, Write}
 use Rattle.frame.specs.Parts.{Part}
 
-abbrev pub byte_at : Parameter → ByteAt → Part
-byte_at p b = record { parameter = p; offset = b.offset; bytes = b.byte.now ∷ [] }
+abbrev pub byte_at : Parameter → At (Bor ℕ) → Part
+byte_at p b = record { parameter = p; offset = b.offset; bytes = b.part.now ∷ [] }
 
-abbrev pub bytes_at : Parameter → BytesAt → Part
-bytes_at p b = record { parameter = p; offset = b.offset; bytes = b.bytes.now }
+abbrev pub bytes_at : Parameter → At (Bor (List ℕ)) → Part
+bytes_at p b = record { parameter = p; offset = b.offset; bytes = b.part.now }
 
 abbrev pub comparison_parts : Comparison → List Part
 comparison_parts c = byte_at Address c.address ∷ byte_at Mask c.mask ∷ bytes_at Word c.word ∷ []

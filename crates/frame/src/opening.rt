@@ -9,7 +9,7 @@ ghost use Rattle.protocol.specs.Refusals.{number_of};
 
 use crate::request::Request;
 use crc::Register;
-use protocol::command::find;
+use protocol::command::Entry;
 use protocol::refusal::Refusal;
 
 // A frame that opened: the caller's bytes, their code and their request.
@@ -22,6 +22,7 @@ pub struct Frame<'a> {
 
 // Opens a frame, or tells why not. Each parameter lies in the bytes at its offset, and the bytes are the one frame that
 // making gives for that code and those parameters.
+#[tactic(auto, using(crate::proofs::Limits::damaged_frames))]
 pub fn open(bytes: &[u8]) -> Result<Frame<'_>, Refusal>
     ensures seen { seen result ≡ opening bytes.now }
     ensures bytes { IfOk result (λ f. f.bytes.now ≡ bytes.now) }
@@ -30,8 +31,7 @@ pub fn open(bytes: &[u8]) -> Result<Frame<'_>, Refusal>
     ensures longest { OnOk result (length bytes.now ≤ 17) }
     ensures damaged { DamagedFrames }
 {
-    let (code, parameters) = unsealed(bytes)?;
-    framed(bytes, code, parameters)
+    Sealed::of(bytes)?.frame()
 }
 
 impl<'a> Frame<'a> {
@@ -57,51 +57,58 @@ impl<'a> Frame<'a> {
     }
 }
 
-// The code and the parameters of a frame whose check value is right.
-fn unsealed(bytes: &[u8]) -> Result<(u8, &[u8]), Refusal>
-    ensures long { OnOk result (3 ≤ length bytes.now) }
-    ensures right { OnOk result (is_sealed bytes.now ≡ true) }
-    ensures code { IfOk result (λ p. p.0 ≡ slice_index bytes.now 0) }
-    ensures parameters { IfOk result (λ p. p.1.now ≡ parameters_of bytes.now) }
-    ensures refusal { IfErr result (λ e. opening bytes.now ≡ refused (number_of e)) }
-    ensures damaged { DamagedFrames }
-{
-    let [code, rest @ ..] = bytes else {
-        return Err(Refusal::Stub);
-    };
-    let [parameters @ .., high, low] = rest else {
-        return Err(Refusal::Stub);
-    };
-    let mut register = Register::preset();
-    register.take_byte(*code);
-    register.take(parameters);
-    if register.check_value() != u16::from_be_bytes([*high, *low]) {
-        return Err(Refusal::Check);
-    }
-    Ok((*code, parameters))
+// Bytes whose last two are the check value of those before them: a frame, if its code and its length are the table's.
+#[derive(Clone, Copy)]
+struct Sealed<'a> {
+    bytes: &'a [u8],
+    code: u8,
+    parameters: &'a [u8],
+    ghost long: { 3 ≤ length bytes.now },
+    ghost right: { is_sealed bytes.now ≡ true },
+    ghost first: { code ≡ slice_index bytes.now 0 },
+    ghost between: { parameters.now ≡ parameters_of bytes.now },
 }
 
-// The frame of such bytes, by the table: or no command has the code, or none of that length.
-fn framed<'a>(bytes: &'a [u8], code: u8, parameters: &'a [u8]) -> Result<Frame<'a>, Refusal>
-    requires long { 3 ≤ length bytes.now }
-    requires right { is_sealed bytes.now ≡ true }
-    requires code { code ≡ slice_index bytes.now 0 }
-    requires parameters { parameters.now ≡ parameters_of bytes.now }
-    ensures seen { seen result ≡ opening bytes.now }
-    ensures bytes { IfOk result (λ f. f.bytes.now ≡ bytes.now) }
-    ensures within { IfOk result (λ f. Within bytes.now (parts_of f.request)) }
-    ensures remade { IfOk result (λ f. making f.code (bytes_in (parts_of f.request)) (length bytes.now) ≡ made bytes.now) }
-    ensures longest { OnOk result (length bytes.now ≤ 17) }
-{
-    let Some(entry) = find(code) else {
-        return Err(Refusal::Code);
-    };
-    if bytes.len() != entry.length {
-        return Err(Refusal::Length);
+impl<'a> Sealed<'a> {
+    fn of(bytes: &'a [u8]) -> Result<Sealed<'a>, Refusal>
+        ensures bytes { IfOk result (λ s. s.bytes.now ≡ bytes.now) }
+        ensures refusal { IfErr result (λ e. opening bytes.now ≡ refused (number_of e)) }
+    {
+        let [code, rest @ ..] = bytes else {
+            return Err(Refusal::Stub);
+        };
+        let [parameters @ .., high, low] = rest else {
+            return Err(Refusal::Stub);
+        };
+        let mut register = Register::preset();
+        register.take_byte(*code);
+        register.take(parameters);
+        if register.check_value() != u16::from_be_bytes([*high, *low]) {
+            return Err(Refusal::Check);
+        }
+        Ok(Sealed {
+            bytes,
+            code: *code,
+            parameters,
+        })
     }
-    Ok(Frame {
-        bytes,
-        code: entry.code,
-        request: Request::of(entry.command, parameters),
-    })
+
+    // The frame, by the table: or no command has the code, or none of that length.
+    fn frame(&self) -> Result<Frame<'a>, Refusal>
+        ensures seen { seen result ≡ opening self.now.bytes.now }
+        ensures bytes { IfOk result (λ f. f.bytes.now ≡ self.now.bytes.now) }
+        ensures within { IfOk result (λ f. Within self.now.bytes.now (parts_of f.request)) }
+        ensures remade { IfOk result (λ f. making f.code (bytes_in (parts_of f.request)) (length self.now.bytes.now) ≡ made self.now.bytes.now) }
+        ensures longest { OnOk result (length self.now.bytes.now ≤ 17) }
+    {
+        let entry = Entry::try_from(self.code)?;
+        if self.bytes.len() != entry.length {
+            return Err(Refusal::Length);
+        }
+        Ok(Frame {
+            bytes: self.bytes,
+            code: entry.code,
+            request: Request::of(entry.command, self.parameters),
+        })
+    }
 }

@@ -1,5 +1,5 @@
 // What a frame asks, with its parameters as parts of the frame's own bytes.
-ghost use Rattle.std.specs.Prelude.{◌≡◌, [], ◌∷◌, length};
+ghost use Rattle.std.specs.Prelude.{◌≡◌, ℕ, List, [], ◌∷◌, length};
 ghost use Rattle.protocol.specs.Commands.{layout, sizes};
 ghost use Rattle.frame.specs.Requests.{parts_of, command_of, comparison_parts, target_parts, bytes_at};
 ghost use Rattle.frame.specs.Parts.{placed, span_of};
@@ -7,19 +7,18 @@ ghost use Rattle.protocol.specs.declared.command.Parameter.TheVariants.{Serial, 
 
 use protocol::command::{Command, Parameter};
 
-// A parameter of one byte, and its offset in the frame.
+// A parameter, as a part of the frame's own bytes, and its offset in the frame.
 #[derive(Clone, Copy)]
-pub struct ByteAt<'a> {
+pub struct At<T> {
     pub offset: usize,
-    pub byte: &'a u8,
+    pub part: T,
 }
 
-// A parameter of several bytes, and its offset in the frame.
-#[derive(Clone, Copy)]
-pub struct BytesAt<'a> {
-    pub offset: usize,
-    pub bytes: &'a [u8],
-}
+// A parameter of one byte.
+pub type ByteAt<'a> = At<&'a u8>;
+
+// A parameter of several bytes.
+pub type BytesAt<'a> = At<&'a [u8]>;
 
 // Where a parameter lies in its frame.
 #[derive(Clone, Copy, PartialEq, Eq, Debug)]
@@ -149,9 +148,9 @@ impl<'a> Request<'a> {
         };
         Request::ReadFlexible(
             Target::of(target),
-            ByteAt {
+            At {
                 offset: 10,
-                byte: length,
+                part: length,
             },
         )
     }
@@ -170,46 +169,65 @@ impl<'a> Request<'a> {
         };
         Request::Write(
             Target::of(target),
-            ByteAt {
+            At {
                 offset: 10,
-                byte: mask,
+                part: mask,
             },
-            BytesAt { offset: 11, bytes },
+            At {
+                offset: 11,
+                part: bytes,
+            },
         )
     }
 }
 
-impl<'a> ByteAt<'a> {
+// What can be a part of a frame.
+trait Extent {
+    // The bytes that it is.
+    ghost bytes: { Self → List ℕ };
+
+    // How many these are.
+    fn extent(&self) -> usize
+        ensures { result ≡ length (bytes self.now) };
+}
+
+impl Extent for &u8 {
+    ghost bytes = { λ b. b.now ∷ [] };
+
+    fn extent(&self) -> usize {
+        1
+    }
+}
+
+impl Extent for &[u8] {
+    ghost bytes = { λ b. b.now };
+
+    fn extent(&self) -> usize {
+        self.len()
+    }
+}
+
+impl<T: Extent> At<T> {
     fn span(&self) -> Span
         ensures offset { result.offset ≡ self.now.offset }
-        ensures length { result.length ≡ 1 }
+        ensures length { result.length ≡ length (T.bytes self.now.part) }
     {
         Span {
             offset: self.offset,
-            length: 1,
+            length: self.part.extent(),
         }
     }
 }
 
 impl<'a> BytesAt<'a> {
-    fn span(&self) -> Span
-        ensures offset { result.offset ≡ self.now.offset }
-        ensures length { result.length ≡ length self.now.bytes.now }
-    {
-        Span {
-            offset: self.offset,
-            length: self.bytes.len(),
-        }
-    }
-
     // The two bytes that no tag looks at.
     fn ignored(parameters: &'a [u8]) -> BytesAt<'a>
         requires { length parameters.now ≡ 2 }
         ensures { bytes_at Ignored result ∷ [] ≡ placed 1 (Ignored ∷ []) parameters.now }
     {
-        BytesAt {
+        At {
             offset: 1,
-            bytes: parameters,
+            part: parameters,
         }
     }
 }
@@ -235,17 +253,17 @@ impl<'a> Comparison<'a> {
             unreachable()
         };
         Comparison {
-            address: ByteAt {
+            address: At {
                 offset: 1,
-                byte: address,
+                part: address,
             },
-            mask: ByteAt {
+            mask: At {
                 offset: 2,
-                byte: mask,
+                part: mask,
             },
-            word: BytesAt {
+            word: At {
                 offset: 3,
-                bytes: word,
+                part: word,
             },
         }
     }
@@ -271,13 +289,13 @@ impl<'a> Target<'a> {
             unreachable()
         };
         Target {
-            serial: BytesAt {
+            serial: At {
                 offset: 1,
-                bytes: serial,
+                part: serial,
             },
-            address: ByteAt {
+            address: At {
                 offset: 9,
-                byte: address,
+                part: address,
             },
         }
     }

@@ -18,7 +18,7 @@ pub struct Writer<'a> {
 impl<'a> Writer<'a> {
     pub fn new(buffer: &'a mut [u8]) -> Writer<'a>
         ensures filled { result.filled ≡ 0 }
-        ensures register { result.register.value ≡ 0xffff }
+        ensures register { result.register ≡ 0xffff }
         ensures buffer { result.buffer.now ≡ buffer.old }
         ensures lender { result.buffer.ghost_name ≡ buffer.entry.ghost_name }
     {
@@ -33,7 +33,6 @@ impl<'a> Writer<'a> {
     pub fn put(&mut self, bytes: &[u8]) -> Result<(), Refusal>
         ensures put { Put bytes.now self.old self.new (is_ok result) }
         ensures refusal { IfErr result (λ e. e ≡ Refusal.Buffer) }
-        ensures lender { self.new.buffer.ghost_name ≡ self.old.buffer.ghost_name }
     {
         let start = self.filled;
         let room = self.buffer.len();
@@ -48,9 +47,8 @@ impl<'a> Writer<'a> {
 
     // Puts the check value of all that was put behind it, or nothing where it does not fit.
     pub fn seal(&mut self) -> Result<(), Refusal>
-        ensures put { Put (sent (0xffff - self.old.register.value)) self.old self.new (is_ok result) }
+        ensures put { Put (sent (0xffff - self.old.register)) self.old self.new (is_ok result) }
         ensures refusal { IfErr result (λ e. e ≡ Refusal.Buffer) }
-        ensures lender { self.new.buffer.ghost_name ≡ self.old.buffer.ghost_name }
         ensures replies { ShortReplies }
     {
         let value = self.register.check_value();

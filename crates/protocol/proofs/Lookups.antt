@@ -1,10 +1,12 @@
 -- Laws of the commands: looking a code up, and how long a frame can be. Assumes nothing.
 use Rattle.std.proofs.Common.{◌≡◌, ℕ, ◌≤◌, Bool, true, false, cond, eqb, ◌==◌, List, [], ◌∷◌, map, find, Some, None, Option, sym, refl, ap, ◌∙◌, arith, lit≤}
-use Rattle.std.specs.Option.{option_map}
+use Rattle.std.specs.Option.{option_map, ok_or}
 use Rattle.std.proofs.lemmas.Bool.{eqb-true}
 use Rattle.protocol.specs.declared.command.Command.{Command}
 use Rattle.protocol.specs.declared.command.Command.TheVariants.{Select, UnselectNe, UnselectIdFlag, UnselectNoidFlag, Query, Scroll, Repeat, Reset, Read, Verify, Lock, Qlock, ReadFlexible, Write}
 use Rattle.protocol.specs.declared.command.Entry.{Entry}
+use Rattle.protocol.specs.declared.refusal.Refusal.TheVariants.{Code}
+use Rattle.protocol.specs.Entries.{Entered}
 use Rattle.protocol.specs.Commands.{code_of, length_of, commands, named, entry_of, first_entry}
 
 -- A table that says of each command what is so is looked through as the commands are.
@@ -36,6 +38,10 @@ found_none code e = none_mapped (named code) (e ∙ told code commands)
 pub found_some : (code : ℕ) (e : Entry) → Some e ≡ first_entry code (map entry_of commands) → (named code ≡ Some e.command) × (e ≡ entry_of e.command)
 unfolding named
 found_some code e p = some_mapped (named code) e (p ∙ told code commands)
+
+pub entered : (code : ℕ) (o : Option Entry) → o ≡ first_entry code (map entry_of commands) → Entered code (ok_or o Code)
+entered code None p = (refl, found_none code p)
+entered code (Some e) p = found_some code e p
 
 first_code : (code : ℕ) (c d : Command) (ds : List Command) → (find (λ c. code_of c == code) ds ≡ Some c → code_of c ≡ code) → (b : Bool) → eqb (code_of d) code ≡ b
     → cond b (Some d) (find (λ c. code_of c == code) ds) ≡ Some c → code_of c ≡ code

@@ -1,3 +1,4 @@
 pub mod Commands
+pub mod Entries
 pub mod Names
 pub mod Refusals

@@ -1,6 +1,9 @@
 // The fourteen commands of the chip SL3ICS31, with their codes and the lengths of their frames.
 ghost use Rattle.std.specs.Prelude.{◌≡◌, map};
 ghost use Rattle.protocol.specs.Commands.{code_of, commands, entry_of, first_entry};
+ghost use Rattle.protocol.specs.Entries.{Entered};
+
+use crate::refusal::Refusal;
 
 #[derive(Clone, Copy, PartialEq, Eq, Debug)]
 pub enum Command {
@@ -145,6 +148,17 @@ pub fn find(code: u8) -> Option<Entry>
     ensures { result ≡ first_entry code (map entry_of commands) }
 {
     first_entry(code, &COMMANDS)
+}
+
+// The entry of a code, or the refusal of a code that no command has.
+impl TryFrom<u8> for Entry {
+    type Error = Refusal;
+
+    ghost try_from_gives = { Entered };
+
+    fn try_from(code: u8) -> Result<Entry, Refusal> {
+        find(code).ok_or(Refusal::Code)
+    }
 }
 
 // The first entry with a code.

@@ -65,7 +65,6 @@ impl Reply {
     fn put_data(self, tag: &Tag, writer: &mut Writer<'_>) -> Result<(), Refusal>
         requires { writer.old.filled + length (data_of tag.now self) ≤ length writer.old.buffer.now }
         ensures put { Put (data_of tag.now self) writer.old writer.new (is_ok result) }
-        ensures lender { writer.new.buffer.ghost_name ≡ writer.old.buffer.ghost_name }
     {
         match self {
             Reply::Serial => writer.put(tag.serial()),
@@ -81,7 +80,6 @@ impl Reply {
 fn put_memory(tag: &Tag, address: u8, count: usize, writer: &mut Writer<'_>) -> Result<(), Refusal>
     requires { writer.old.filled + count ≤ length writer.old.buffer.now }
     ensures put { Put (bytes_from tag.now.memory address count) writer.old writer.new (is_ok result) }
-    ensures lender { writer.new.buffer.ghost_name ≡ writer.old.buffer.ghost_name }
 {
     for place in 0..count {
         writer.put(&[tag.byte(usize::from(address) + place)])?;

@@ -3,37 +3,21 @@ use Rattle.std.proofs.lemmas.Slice.{first_rest}
 use Rattle.std.proofs.lemmas.List.{take_rest, get_or-drop, length-take, length-drop}
 use Rattle.crc.specs.Check.{check_value}
 use Rattle.frame.specs.Openings.{is_sealed, parameters_of}
-use Rattle.frame.proofs.Limits.{damaged_frames}
 use Rattle.frame.proofs.Opens.{stub, bad_check}
 use Rattle.frame.proofs.Seals.{right, wrong, parameters_are, comes_to}
-use Rattle.frame.proofs.opening.unsealed.Goals as goal
+use Rattle.frame.proofs.opening.Sealed.of.Goals as goal
 
-pub returns-in_default : goal.returns-in_default
-returns-in_default c =
-    record {
-      long = tt;
-      right = tt;
-      code = tt;
-      parameters = tt;
-      refusal = stub c.args.bytes.now (omega (arith, ltb-true));
-      damaged = damaged_frames;
-    }
+pub returns-in_default-clause-refusal : goal.returns-in_default-clause-refusal
+returns-in_default-clause-refusal c = stub c.args.bytes.now (omega (arith, ltb-true))
 
-pub returns-in_default-rest : goal.returns-in_default-rest
-returns-in_default-rest c =
+pub returns-in_default-rest-clause-refusal : goal.returns-in_default-rest-clause-refusal
+returns-in_default-rest-clause-refusal c =
     let bytes : List ℕ = c.args.bytes.now in
     let rest : length (take (length bytes - 1) (drop 1 bytes)) ≡ length bytes - 1 = simp (length-take, length-drop) (omega arith) in
-    record {
-      long = tt;
-      right = tt;
-      code = tt;
-      parameters = tt;
-      refusal = stub bytes (omega (arith, ltb-true));
-      damaged = damaged_frames;
-    }
+    stub bytes (omega (arith, ltb-true))
 
-pub returns-then-check_value-from_be_bytes : goal.returns-then-check_value-from_be_bytes
-returns-then-check_value-from_be_bytes c =
+pub returns-then-check_value-from_be_bytes-clause-refusal : goal.returns-then-check_value-from_be_bytes-clause-refusal
+returns-then-check_value-from_be_bytes-clause-refusal c =
     let bytes : List ℕ = c.args.bytes.now in
     let code : ℕ = get_or bytes 0 0 in
     let rest : List ℕ = take (length bytes - 1) (drop 1 bytes) in
@@ -41,18 +25,11 @@ returns-then-check_value-from_be_bytes c =
     let long : 2 ≤ length rest = omega (arith, ltb-false) in
     let value : c.check_value.result ≡ check_value (code ∷ take (length rest - 2) rest) =
     comes_to code (take (length rest - 2) rest) c.preset-register.ensures c.take_byte.ensures c.take.ensures c.check_value.ensures in
-    record {
-      long = tt;
-      right = tt;
-      code = tt;
-      parameters = tt;
-      refusal = bad_check bytes (omega (arith, ap length whole))
-          (ap is_sealed whole ∙ wrong code rest long (λ e. c.if-check_value-from_be_bytes.true (value ∙ e ∙ sym c.from_be_bytes.ensures)));
-      damaged = damaged_frames;
-    }
+    bad_check bytes (omega (arith, ap length whole))
+    (ap is_sealed whole ∙ wrong code rest long (λ e. c.if-check_value-from_be_bytes.true (value ∙ e ∙ sym c.from_be_bytes.ensures)))
 
-pub returns : goal.returns
-returns c =
+pub invariant_of-result : goal.invariant_of-result
+invariant_of-result c =
     let bytes : List ℕ = c.args.bytes.now in
     let code : ℕ = get_or bytes 0 0 in
     let rest : List ℕ = take (length bytes - 1) (drop 1 bytes) in
@@ -67,8 +44,6 @@ returns c =
       right =
           ap is_sealed whole
           ∙ right code rest long (sym value ∙ c.if-check_value-from_be_bytes.false ∙ c.from_be_bytes.ensures) (byte (length rest - 2)) (byte (length rest - 1));
-      code = refl;
-      parameters = sym (ap parameters_of whole ∙ parameters_are code rest long);
-      refusal = tt;
-      damaged = damaged_frames;
+      first = refl;
+      between = sym (ap parameters_of whole ∙ parameters_are code rest long);
     }
