@@ -3,5 +3,6 @@
 
 pub mod making;
 pub mod opening;
+mod putting;
 pub mod request;
 pub mod writer;

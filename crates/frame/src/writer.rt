@@ -1,18 +1,15 @@
 // Bytes put one behind another at the front of a lent buffer.
-ghost use Rattle.std.specs.Prelude.{◌≡◌, ◌+◌, ◌-◌, ◌≤◌, length, is_ok, IfErr};
-ghost use Rattle.crc.specs.Check.{sent};
-ghost use Rattle.frame.specs.Cases.{ShortReplies};
-ghost use Rattle.frame.specs.Writing.{Put, laid};
+ghost use Rattle.std.specs.Prelude.{◌≡◌, ◌≤◌, length};
 
 use crc::Register;
-use protocol::refusal::Refusal;
 
 // The buffer, how many of its bytes are filled, and the register over those that were put.
 #[derive(Drop)]
 pub struct Writer<'a> {
-    buffer: &'a mut [u8],
-    filled: usize,
-    register: Register,
+    pub(crate) buffer: &'a mut [u8],
+    pub(crate) filled: usize,
+    pub(crate) register: Register,
+    ghost fits: { filled ≤ length buffer.now },
 }
 
 impl<'a> Writer<'a> {
@@ -29,43 +26,9 @@ impl<'a> Writer<'a> {
         }
     }
 
-    // Puts some bytes behind those that are there, or none of them where they do not all fit.
-    pub fn put(&mut self, bytes: &[u8]) -> Result<(), Refusal>
-        ensures put { Put bytes.now self.old self.new (is_ok result) }
-        ensures refusal { IfErr result (λ e. e ≡ Refusal.Buffer) }
-    {
-        let start = self.filled;
-        let room = self.buffer.len();
-        if room < start || room - start < bytes.len() {
-            return Err(Refusal::Buffer);
-        }
-        overlay(self.buffer, start, bytes);
-        self.filled = start + bytes.len();
-        self.register.take(bytes);
-        Ok(())
-    }
-
-    // Puts the check value of all that was put behind it, or nothing where it does not fit.
-    pub fn seal(&mut self) -> Result<(), Refusal>
-        ensures put { Put (sent (0xffff - self.old.register)) self.old self.new (is_ok result) }
-        ensures refusal { IfErr result (λ e. e ≡ Refusal.Buffer) }
-        ensures replies { ShortReplies }
-    {
-        let value = self.register.check_value();
-        self.put(&value.to_be_bytes())
-    }
-
     pub fn filled(&self) -> usize
         ensures { result ≡ self.now.filled }
     {
         self.filled
     }
-}
-
-// Lays bytes over a buffer that is long enough, from a place on.
-fn overlay(buffer: &mut [u8], start: usize, bytes: &[u8])
-    requires { start + length bytes.now ≤ length buffer.old }
-    ensures { buffer.new ≡ laid buffer.old start bytes.now }
-{
-    buffer[start..start + bytes.len()].copy_from_slice(bytes);
 }

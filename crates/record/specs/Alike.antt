@@ -1,7 +1,7 @@
 -- When two tags are alike: their records are equal in every part. Assumes nothing.
-use Rattle.std.proofs.Common.{◌≡◌, ℕ, Bool, true, false, ◌&&◌, ◌==◌, Some, None, Option, refl, sym, ap, arith}
+use Rattle.std.proofs.Common.{◌≡◌, ℕ, Bool, ◌&&◌, ◌==◌, Some, None, Option, refl, ap, arith}
 use Rattle.std.specs.Bool.{Decides, beq}
-use Rattle.std.specs.Option.{option_eq, option_len}
+use Rattle.std.specs.Option.{option_eq}
 use Rattle.std.specs.Cmp.{booleans_Decides, unsigned_Decides, IsPartialEquivalence, partial_equiv_from_equiv, decided}
 use Rattle.std.proofs.lemmas.Bool.Decides.{Decides-and}
 use Rattle.std.proofs.lemmas.Slice.Eq.{slice_eq-Decides}
@@ -26,24 +26,24 @@ alike t u =
 
 state_of_number : (s t : State) → state_number s ≡ state_number t → s ≡ t
 state_of_number Ready Ready e = refl
-state_of_number Ready Singulation e = absurd (omega (arith, e))
-state_of_number Ready Inventoried e = absurd (omega (arith, e))
-state_of_number Singulation Ready e = absurd (omega (arith, e))
+state_of_number Ready Singulation e = absurd (omega arith)
+state_of_number Ready Inventoried e = absurd (omega arith)
+state_of_number Singulation Ready e = absurd (omega arith)
 state_of_number Singulation Singulation e = refl
-state_of_number Singulation Inventoried e = absurd (omega (arith, e))
-state_of_number Inventoried Ready e = absurd (omega (arith, e))
-state_of_number Inventoried Singulation e = absurd (omega (arith, e))
+state_of_number Singulation Inventoried e = absurd (omega arith)
+state_of_number Inventoried Ready e = absurd (omega arith)
+state_of_number Inventoried Singulation e = absurd (omega arith)
 state_of_number Inventoried Inventoried e = refl
 
 mark_of_number : (s t : WriteMark) → mark_number s ≡ mark_number t → s ≡ t
 mark_of_number Clear Clear e = refl
-mark_of_number Clear Fading e = absurd (omega (arith, e))
-mark_of_number Clear Fresh e = absurd (omega (arith, e))
-mark_of_number Fading Clear e = absurd (omega (arith, e))
+mark_of_number Clear Fading e = absurd (omega arith)
+mark_of_number Clear Fresh e = absurd (omega arith)
+mark_of_number Fading Clear e = absurd (omega arith)
 mark_of_number Fading Fading e = refl
-mark_of_number Fading Fresh e = absurd (omega (arith, e))
-mark_of_number Fresh Clear e = absurd (omega (arith, e))
-mark_of_number Fresh Fading e = absurd (omega (arith, e))
+mark_of_number Fading Fresh e = absurd (omega arith)
+mark_of_number Fresh Clear e = absurd (omega arith)
+mark_of_number Fresh Fading e = absurd (omega arith)
 mark_of_number Fresh Fresh e = refl
 
 -- What has a number of its own is compared by it.
@@ -51,21 +51,10 @@ numbered : {X : Type 0} (number : X → ℕ) (own : (x y : X) → number x ≡ n
 numbered number own x y =
     (λ e. own x y ((unsigned_Decides (number x) (number y)).0 e), λ e. (unsigned_Decides (number x) (number y)).1 (ap number e))
 
-bit : Bool → ℕ
-bit false = 0
-bit true = 1
-
-untrue : {X : Type 0} → false ≡ true → X
-unfolding bit
-untrue e = absurd (omega (arith, ap bit e))
-
-none_some : {X : Type 0} (n : ℕ) → None ≡ Some n → X
-none_some n e = absurd (omega (arith, ap option_len e))
-
 permissions : (p q : Option ℕ) → Decides (option_eq ◌==◌ p q) (p ≡ q)
 permissions None None = (λ e. refl, λ e. refl)
-permissions None (Some n) = (λ e. untrue e, λ e. none_some n e)
-permissions (Some m) None = (λ e. untrue e, λ e. none_some m (sym e))
+permissions None (Some n) = (λ e. cc, λ e. cc)
+permissions (Some m) None = (λ e. cc, λ e. cc)
 permissions (Some m) (Some n) = (λ e. ap Some ((unsigned_Decides m n).0 e), λ e. (unsigned_Decides m n).1 (search e))
 
 pub alike_Decides : (t u : Tag) → Decides (alike t u) (t ≡ u)

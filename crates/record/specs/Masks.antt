@@ -1,5 +1,6 @@
 -- Masks, and what they select of the bytes from an address on. Assumes nothing.
-use Rattle.std.specs.Prelude.{ℕ, zero, suc, ◌+◌, ◌-◌, ◌/◌, ◌%◌, ◌^◌, Bool, true, cond, ◌&&◌, List, ◌==◌, slice_index, slice_set}
+use Rattle.std.specs.Prelude.{ℕ, zero, suc, ◌+◌, ◌-◌, ◌/◌, ◌%◌, ◌^◌, Bool, true, cond, List, ◌==◌, slice_index, slice_set}
+use Rattle.std.specs.List.{list_all, range_with_len}
 
 -- Whether a mask selects the byte at some place, from 0: its bits stand for the places, the highest for the first.
 abbrev pub selects : ℕ → ℕ → Bool
@@ -9,14 +10,9 @@ selects mask i = mask / 2 ^ (7 - i) % 2 == 1
 abbrev pub agrees_at : List ℕ → ℕ → ℕ → List ℕ → ℕ → Bool
 agrees_at memory a mask word i = cond (selects mask i) (slice_index memory (a + i) == slice_index word i) true
 
--- Whether the first n places agree.
-unfoldable pub agree : List ℕ → ℕ → ℕ → List ℕ → ℕ → Bool
-agree memory a mask word zero = true
-agree memory a mask word (suc n) = agree memory a mask word n && agrees_at memory a mask word n
-
 -- Masked comparison looks at eight bytes from an address on.
 abbrev pub matches : List ℕ → ℕ → ℕ → List ℕ → Bool
-matches memory a mask word = agree memory a mask word 8
+matches memory a mask word = list_all (agrees_at memory a mask word) (range_with_len 0 8)
 
 -- The memory once the byte at a place is stored, if it is selected.
 abbrev pub stored_at : ℕ → ℕ → List ℕ → List ℕ → ℕ → List ℕ

@@ -130,12 +130,13 @@ impl PartialEq for Tag {
 
     ghost laws = { alike_partial_equivalence };
 
+    #[tactic(auto, unfolding(crate::specs::Alike::alike))]
     fn eq(&self, other: &Tag) -> bool
         ensures value { result ≡ alike self.now other.now }
         ensures alike { Decides result (self.now ≡ other.now) }
     {
-        same_bytes(&self.memory, &other.memory)
-            && same_bits(&self.locks, &other.locks)
+        self.memory == other.memory
+            && self.locks == other.locks
             && self.state == other.state
             && self.identified == other.identified
             && self.counter == other.counter
@@ -144,24 +145,9 @@ impl PartialEq for Tag {
     }
 }
 
-fn same_bytes(some: &[u8], others: &[u8]) -> bool
-    ensures { Decides result (some.now ≡ others.now) }
-{
-    some == others
-}
-
-fn same_bits(some: &[bool], others: &[bool]) -> bool
-    ensures { Decides result (some.now ≡ others.now) }
-{
-    some == others
-}
-
 // An element of a row, or what counts for one beyond its end.
 fn element<T: Copy>(row: &[T], place: usize, beyond: T) -> T
     ensures { result ≡ slice_index_or row.now place beyond }
 {
-    match row.get(place) {
-        Some(found) => *found,
-        None => beyond,
-    }
+    row.get(place).copied().unwrap_or(beyond)
 }

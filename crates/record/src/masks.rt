@@ -1,5 +1,5 @@
 // Masks, and what they select of the bytes from an address on.
-ghost use Rattle.std.specs.Prelude.{◌≡◌, ◌<◌, slice_set};
+ghost use Rattle.std.specs.Prelude.{◌≡◌, ◌+◌, ◌<◌, slice_index, slice_set};
 ghost use Rattle.record.specs.Masks.{selects, agrees_at, matches, stored_at, stored};
 ghost use Rattle.record.specs.Records.{remembering};
 
@@ -10,38 +10,25 @@ impl Tag {
     pub fn matches(&self, address: u8, mask: u8, word: &[u8]) -> bool
         ensures { result ≡ matches self.now.memory address mask word.now }
     {
-        for place in 0..8 {
-            if !self.agrees_at(address, mask, word, place) {
-                return false;
-            }
-        }
-        true
+        let wanted = Masked {
+            address,
+            mask,
+            bytes: word,
+        };
+        (0..8).all(|place| wanted.agrees_at(self, place))
     }
 
     // Stores the selected ones of four bytes from an address on.
     pub fn store(&mut self, address: u8, mask: u8, bytes: &[u8])
         ensures { self.new ≡ remembering (stored address mask bytes.now self.old.memory 4) self.old }
     {
+        let given = Masked {
+            address,
+            mask,
+            bytes,
+        };
         for place in 0..4 {
-            self.store_at(address, mask, bytes, place);
-        }
-    }
-
-    // Whether the byte at a place is the wanted one, or not selected.
-    fn agrees_at(&self, address: u8, mask: u8, word: &[u8], place: usize) -> bool
-        requires { place < 8 }
-        ensures { result ≡ agrees_at self.now.memory address mask word.now place }
-    {
-        !selects(mask, place) || self.byte(usize::from(address) + place) == element(word, place, 0)
-    }
-
-    // Stores the byte at a place, if it is selected.
-    fn store_at(&mut self, address: u8, mask: u8, bytes: &[u8], place: usize)
-        requires { place < 8 }
-        ensures { self.new ≡ remembering (stored_at address mask bytes.now self.old.memory place) self.old }
-    {
-        if selects(mask, place) {
-            self.put(usize::from(address) + place, element(bytes, place, 0));
+            given.store_at(self, place);
         }
     }
 
@@ -55,10 +42,53 @@ impl Tag {
     }
 }
 
-// Whether a mask selects the byte at a place: its bits stand for the places, the highest for the first.
-fn selects(mask: u8, place: usize) -> bool
-    requires { place < 8 }
-    ensures { result ≡ selects mask place }
-{
-    (mask >> (7 - place)) % 2 == 1
+// Bytes for the places from an address on, and which of them count.
+#[derive(Clone, Copy)]
+struct Masked<'a> {
+    address: u8,
+    mask: u8,
+    bytes: &'a [u8],
+}
+
+// A place is below 8 by the range that it comes from: a type for it would be made of a number at each turn of both
+// loops, only to say so again.
+impl Masked<'_> {
+    // Whether the mask selects the byte at a place: its bits stand for the places, the highest for the first.
+    fn selects(&self, place: usize) -> bool
+        requires { place < 8 }
+        ensures { result ≡ selects self.now.mask place }
+    {
+        (self.mask >> (7 - place)) % 2 == 1
+    }
+
+    fn address_of(&self, place: usize) -> usize
+        requires { place < 8 }
+        ensures { result ≡ self.now.address + place }
+    {
+        usize::from(self.address) + place
+    }
+
+    fn byte(&self, place: usize) -> u8
+        ensures { result ≡ slice_index self.now.bytes.now place }
+    {
+        element(self.bytes, place, 0)
+    }
+
+    // Whether the byte of a tag at a place is the wanted one, or not selected.
+    fn agrees_at(&self, tag: &Tag, place: usize) -> bool
+        requires { place < 8 }
+        ensures { result ≡ agrees_at tag.now.memory self.now.address self.now.mask self.now.bytes.now place }
+    {
+        !self.selects(place) || tag.byte(self.address_of(place)) == self.byte(place)
+    }
+
+    // Stores the byte at a place, if it is selected.
+    fn store_at(&self, tag: &mut Tag, place: usize)
+        requires { place < 8 }
+        ensures { tag.new ≡ remembering (stored_at self.now.address self.now.mask self.now.bytes.now tag.old.memory place) tag.old }
+    {
+        if self.selects(place) {
+            tag.put(self.address_of(place), self.byte(place));
+        }
+    }
 }

@@ -64,7 +64,7 @@ impl Reply {
     // Puts the data, for which there is room.
     fn put_data(self, tag: &Tag, writer: &mut Writer<'_>) -> Result<(), Refusal>
         requires { writer.old.filled + length (data_of tag.now self) ≤ length writer.old.buffer.now }
-        ensures put { Put (data_of tag.now self) writer.old writer.new (is_ok result) }
+        ensures { Put (data_of tag.now self) writer.old writer.new (is_ok result) }
     {
         match self {
             Reply::Serial => writer.put(tag.serial()),
@@ -79,7 +79,7 @@ impl Reply {
 // Puts so many bytes of a tag from an address on, for which there is room.
 fn put_memory(tag: &Tag, address: u8, count: usize, writer: &mut Writer<'_>) -> Result<(), Refusal>
     requires { writer.old.filled + count ≤ length writer.old.buffer.now }
-    ensures put { Put (bytes_from tag.now.memory address count) writer.old writer.new (is_ok result) }
+    ensures { Put (bytes_from tag.now.memory address count) writer.old writer.new (is_ok result) }
 {
     for place in 0..count {
         writer.put(&[tag.byte(usize::from(address) + place)])?;

@@ -1,15 +1,16 @@
--- Both the test of the parts and the body tell whether the records are equal, so they give one answer.
-use Rattle.std.proofs.Common.{rules, ◌≡◌}
-use Rattle.std.specs.Bool.{Decides, one_answer}
-use Rattle.record.specs.Alike.{alike_Decides}
+-- The body is the test part by part, which tells whether the records are equal.
+use Rattle.std.proofs.Common.{◌≡◌, rules}
+use Rattle.record.specs.Alike.{alike, alike_Decides}
 use Rattle.record.proofs.TagPartialEq.eq.Goals as goal
 
-pub returns-then-eq-2-clause-value : goal.returns-then-eq-2-clause-value
-returns-then-eq-2-clause-value c =
-    let told : Decides c.eq-then-eq-2.result (c.args.self.now ≡ c.args.other.now) = search rules in
-    one_answer _ _ told (alike_Decides c.args.self.now c.args.other.now)
+pub returns-then-eq-4-clause-alike : goal.returns-then-eq-4-clause-alike
+unfolding alike
+returns-then-eq-4-clause-alike c =
+    let value : c.eq-then-eq-4.result ≡ alike c.args.self.now c.args.other.now = search rules in
+    rw value (alike_Decides c.args.self.now c.args.other.now)
 
-pub returns-else-eq-2-clause-value : goal.returns-else-eq-2-clause-value
-returns-else-eq-2-clause-value c =
-    let told : Decides c.if-self-other-2.value (c.args.self.now ≡ c.args.other.now) = search rules in
-    one_answer _ _ told (alike_Decides c.args.self.now c.args.other.now)
+pub returns-else-eq-4-clause-alike : goal.returns-else-eq-4-clause-alike
+unfolding alike
+returns-else-eq-4-clause-alike c =
+    let value : c.if-self-other-2.value ≡ alike c.args.self.now c.args.other.now = search rules in
+    rw value (alike_Decides c.args.self.now c.args.other.now)

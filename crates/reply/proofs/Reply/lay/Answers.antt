@@ -20,7 +20,7 @@ returns-in_err-put_data c =
     let start : c.new-writer.result.filled ≡ 0 = c.new-writer.ensures.filled in
     let room : length c.new-writer.result.buffer.now ≡ length c.args.buffer.now = ap length c.new-writer.ensures.buffer in
     let full = false-leb (c.new-writer.result.filled + length (data_of c.args.tag.now c.args.self))
-    (length c.new-writer.result.buffer.now) c.in_err-put_data.ensures.put.fits in
+    (length c.new-writer.result.buffer.now) c.in_err-put_data.ensures.fits in
     absurd (omega (arith, c.requires))
 
 pub returns-in_err-seal : goal.returns-in_err-seal
@@ -29,7 +29,7 @@ returns-in_err-seal c =
     let size = length-sealed bytes in
     let start : c.new-writer.result.filled ≡ 0 = c.new-writer.ensures.filled in
     let room : length c.new-writer.result.buffer.now ≡ length c.args.buffer.now = ap length c.new-writer.ensures.buffer in
-    let put = c.in_ok-put_data.ensures.put in
+    let put = c.in_ok-put_data.ensures in
     let kept : length c.put_data.new.writer.buffer.now ≡ length c.new-writer.result.buffer.now =
     put_room c.new-writer.result c.put_data.new.writer bytes put in
     let filled : c.put_data.new.writer.filled ≡ c.new-writer.result.filled + length bytes = put.filled in
@@ -42,7 +42,7 @@ returns c =
     let bytes : List ℕ = data_of c.args.tag.now c.args.self in
     let n = c.new-writer.ensures in
     let h0 : Holds c.new-writer.result b [] = record { bytes = n.buffer; count = n.filled; over = n.register } in
-    let h1 = holds_more c.new-writer.result c.put_data.new.writer b [] bytes h0 c.in_ok-put_data.ensures.put in
+    let h1 = holds_more c.new-writer.result c.put_data.new.writer b [] bytes h0 c.in_ok-put_data.ensures in
     let h2 = holds-sealed c.put_data.new.writer c.seal.new.self b bytes h1 c.in_ok-seal.ensures.put in
     let final : c.seal.new.self.buffer.now ≡ sealed bytes ++ drop (length (sealed bytes)) b = h2.bytes in
     let count : c.filled.result ≡ length (sealed bytes) = c.filled.ensures ∙ h2.count in

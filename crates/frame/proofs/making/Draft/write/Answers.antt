@@ -1,7 +1,7 @@
 use Rattle.std.proofs.Common.{◌≡◌, ℕ, List, [], ◌∷◌, ◌++◌, length, drop, sym, ap, ◌∙◌, arith, rules}
 use Rattle.crc.specs.Check.{sealed}
 use Rattle.protocol.specs.Refusals.{told}
-use Rattle.frame.specs.Makings.{unmade, made, making, answering, leaving}
+use Rattle.frame.specs.Makings.{unmade, made, making, answering}
 use Rattle.frame.proofs.Makes.{no_room, makes}
 use Rattle.frame.proofs.Trips.{opens_back, opens_at}
 use Rattle.frame.proofs.Writes.{Holds, holds_more, holds-sealed}

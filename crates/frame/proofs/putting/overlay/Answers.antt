@@ -1,7 +1,7 @@
 use Rattle.std.proofs.Common.{◌≡◌, ℕ, ◌+◌, ◌-◌, List, ◌++◌, length, take, drop, ap, ◌∙◌, ap₂, arith}
 use Rattle.std.proofs.lemmas.List.{drop-drop}
 use Rattle.frame.specs.Writing.{laid}
-use Rattle.frame.proofs.writer.overlay.Goals as goal
+use Rattle.frame.proofs.putting.overlay.Goals as goal
 
 pub returns : goal.returns
 unfolding laid

@@ -1,0 +1,44 @@
+// Putting bytes into a writer, one behind another.
+ghost use Rattle.std.specs.Prelude.{◌≡◌, ◌+◌, ◌-◌, ◌≤◌, length, is_ok, IfErr};
+ghost use Rattle.crc.specs.Check.{sent};
+ghost use Rattle.frame.specs.Cases.{ShortReplies};
+ghost use Rattle.frame.specs.Writing.{Put, laid};
+
+use crate::writer::Writer;
+use protocol::refusal::Refusal;
+
+impl<'a> Writer<'a> {
+    // Puts some bytes behind those that are there, or none of them where they do not all fit.
+    pub fn put(&mut self, bytes: &[u8]) -> Result<(), Refusal>
+        ensures put { Put bytes.now self.old self.new (is_ok result) }
+        ensures refusal { IfErr result (λ e. e ≡ Refusal.Buffer) }
+    {
+        let start = self.filled;
+        if self.buffer.len() - start < bytes.len() {
+            return Err(Refusal::Buffer);
+        }
+        overlay(self.buffer, start, bytes);
+        self.filled = start + bytes.len();
+        self.register.take(bytes);
+        Ok(())
+    }
+
+    // Puts the check value of all that was put behind it, or nothing where it does not fit.
+    #[tactic(auto, using(crate::proofs::Limits::short_replies))]
+    pub fn seal(&mut self) -> Result<(), Refusal>
+        ensures put { Put (sent (0xffff - self.old.register)) self.old self.new (is_ok result) }
+        ensures refusal { IfErr result (λ e. e ≡ Refusal.Buffer) }
+        ensures replies { ShortReplies }
+    {
+        let value = self.register.check_value();
+        self.put(&value.to_be_bytes())
+    }
+}
+
+// Lays bytes over a buffer that is long enough, from a place on.
+fn overlay(buffer: &mut [u8], start: usize, bytes: &[u8])
+    requires { start + length bytes.now ≤ length buffer.old }
+    ensures { buffer.new ≡ laid buffer.old start bytes.now }
+{
+    buffer[start..start + bytes.len()].copy_from_slice(bytes);
+}
