@@ -2,6 +2,7 @@
 #![tactic(auto)]
 
 ghost use Rattle.std.specs.Prelude.{◌≡◌, ◌-◌, Decides, slice_index_or};
+ghost use Rattle.std.specs.Str.{bytes_eq};
 ghost use Rattle.record.specs.Records.{byte_at, locked_at, serial_of, mark_number, fallen, is_write_ok, new_tag};
 ghost use Rattle.record.specs.Alike.{alike, alike_partial_equivalence};
 
@@ -107,6 +108,13 @@ impl Tag {
         ensures { result.now ≡ serial_of self.now }
     {
         &self.memory[..SERIAL]
+    }
+
+    // Whether these are the tag's serial number.
+    pub fn has_serial(&self, serial: &[u8]) -> bool
+        ensures { result ≡ bytes_eq (serial_of self.now) serial.now }
+    {
+        self.serial() == serial
     }
 
     // The byte at an address, 00 above 37.

@@ -17,7 +17,7 @@ use commands::{in_turn, join, lock, qlock, query, read, reset, scroll, unselect,
 use frame::opening::{Frame, open};
 use frame::request::{Comparison, Request, Target};
 use protocol::refusal::Refusal;
-use record::{SERIAL, State, Tag};
+use record::{State, Tag};
 use reply::Reply;
 
 // Steps a tag on the bytes of a frame.
@@ -101,32 +101,32 @@ fn obey(tag: &mut Tag, request: Request<'_>, coin: bool, permitted: Option<u8>) 
         (State::Singulation, Request::Scroll) => scroll(tag),
         (State::Singulation, Request::Repeat) => in_turn(tag),
         (_, Request::Reset) => reset(tag),
-        (_, Request::Read(target)) if is_meant(tag, target) => read(tag, *target.address.byte, 7),
+        (_, Request::Read(target)) if is_meant(tag, target) => read(tag, *target.address.part, 7),
         (_, Request::ReadFlexible(target, length)) if is_meant(tag, target) => {
-            read(tag, *target.address.byte, *length.byte)
+            read(tag, *target.address.part, *length.part)
         }
-        (_, Request::Verify(target)) if is_meant(tag, target) => verify(tag, *target.address.byte),
+        (_, Request::Verify(target)) if is_meant(tag, target) => verify(tag, *target.address.part),
         (_, Request::Write(target, mask, bytes)) if is_meant(tag, target) => {
-            write(tag, *target.address.byte, *mask.byte, bytes.bytes)
+            write(tag, *target.address.part, *mask.part, bytes.part)
         }
         (State::Inventoried, Request::Lock(target)) if is_meant(tag, target) => {
-            lock(tag, *target.address.byte, permitted)
+            lock(tag, *target.address.part, permitted)
         }
-        (_, Request::Qlock(target)) if is_meant(tag, target) => qlock(tag, *target.address.byte),
+        (_, Request::Qlock(target)) if is_meant(tag, target) => qlock(tag, *target.address.part),
         _ => None,
     }
 }
 
 // Whether the masked bytes of a tag are those of the frame.
 fn is_matching(tag: &Tag, wanted: Comparison<'_>) -> bool
-    ensures { result ≡ matches tag.now.memory wanted.entry.address.byte.now wanted.entry.mask.byte.now wanted.entry.word.bytes.now }
+    ensures { result ≡ matches tag.now.memory wanted.entry.address.part.now wanted.entry.mask.part.now wanted.entry.word.part.now }
 {
-    tag.matches(*wanted.address.byte, *wanted.mask.byte, wanted.word.bytes)
+    tag.matches(*wanted.address.part, *wanted.mask.part, wanted.word.part)
 }
 
 // Whether a tag has the frame's serial number.
 fn is_meant(tag: &Tag, target: Target<'_>) -> bool
-    ensures { result ≡ is_meant tag.now target.entry.serial.bytes.now }
+    ensures { result ≡ is_meant tag.now target.entry.serial.part.now }
 {
-    &tag.memory[..SERIAL] == target.serial.bytes
+    tag.has_serial(target.serial.part)
 }
