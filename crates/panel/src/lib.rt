@@ -2,11 +2,13 @@
 // both.
 #![tactic(auto)]
 
-ghost use Rattle.std.specs.Prelude.{◌≡◌, ◌++◌, length, drop, if◌then◌else◌, nat_lt};
+ghost use Rattle.std.specs.Prelude.{◌≡◌, length, MatchResult};
+ghost use Rattle.std.proofs.Props.{props};
 ghost use Rattle.crc.specs.Check.{check_value};
 ghost use Rattle.frame.specs.Openings.{opening};
 ghost use Rattle.frame.specs.Parts.{span_of};
 ghost use Rattle.frame.specs.Requests.{parts_of};
+ghost use Rattle.protocol.specs.Refusals.{number_of};
 ghost use Rattle.panel.specs.Shown.{Small, offset_in, length_in, shown_of, answering, leaving};
 
 use crc::check_value;
@@ -31,65 +33,80 @@ pub fn nolbashi_open(frame: &[u8], shown: &mut [u8]) -> u8
     ensures answer { result ≡ answering (opening frame.now) (length shown.old) }
     ensures shown { shown.new ≡ leaving (opening frame.now) shown.old }
 {
-    match open(frame) {
-        Ok(opened) => show(&opened, shown),
-        Err(refusal) => refusal.number(),
-    }
+    show(frame, shown).err().map_or(0, u8::from)
 }
 
-// Shows an opened frame, or answers that there is no room for it.
-fn show(frame: &Frame<'_>, shown: &mut [u8]) -> u8
-    requires { Small (parts_of frame.now.request) }
-    ensures answer { result ≡ (if nat_lt (length shown.old) 15 then 5 else 0) }
-    ensures shown { shown.new ≡ (if nat_lt (length shown.old) 15 then shown.old else shown_of frame.now.code (parts_of frame.now.request) ++ drop 15 shown.old) }
+// Shows what a frame holds, or tells why not.
+fn show(frame: &[u8], shown: &mut [u8]) -> Result<(), Refusal>
+    ensures answer { MatchResult result (λ _. answering (opening frame.now) (length shown.old) ≡ 0) (λ e. answering (opening frame.now) (length shown.old) ≡ number_of e) }
+    ensures shown { shown.new ≡ leaving (opening frame.now) shown.old }
 {
+    let opened = Shown::of(&open(frame)?);
     if shown.len() < SHOWN {
-        return Refusal::Buffer.number();
+        return Err(Refusal::Buffer);
     }
-    shown[0..SHOWN].copy_from_slice(&row(frame));
-    0
+    shown[..SHOWN].copy_from_slice(&opened.row());
+    Ok(())
 }
 
-// The code, then each parameter's offset and length.
-fn row(frame: &Frame<'_>) -> [u8; SHOWN]
-    requires { Small (parts_of frame.now.request) }
-    ensures { result ≡ shown_of frame.now.code (parts_of frame.now.request) }
-{
-    let request = frame.request();
-    let (serial, serial_length) = pair(&request, Parameter::Serial);
-    let (address, address_length) = pair(&request, Parameter::Address);
-    let (mask, mask_length) = pair(&request, Parameter::Mask);
-    let (word, word_length) = pair(&request, Parameter::Word);
-    let (block, block_length) = pair(&request, Parameter::Data);
-    let (length, length_length) = pair(&request, Parameter::Length);
-    let (ignored, ignored_length) = pair(&request, Parameter::Ignored);
-    [
-        frame.code(),
-        serial,
-        serial_length,
-        address,
-        address_length,
-        mask,
-        mask_length,
-        word,
-        word_length,
-        block,
-        block_length,
-        length,
-        length_length,
-        ignored,
-        ignored_length,
-    ]
+// What is shown of a frame: its code, and where its parameters lie, for which two bytes each are enough.
+#[derive(Clone, Copy)]
+struct Shown<'a> {
+    code: u8,
+    request: Request<'a>,
+    ghost small: { Small (parts_of request) } by { Prim.hlevel props },
 }
 
-// Offset and length of a parameter, and zeros where the frame has none.
-fn pair(request: &Request<'_>, parameter: Parameter) -> (u8, u8)
-    requires { Small (parts_of request.now) }
-    ensures offset { result.0 ≡ offset_in (span_of parameter (parts_of request.now)) }
-    ensures length { result.1 ≡ length_in (span_of parameter (parts_of request.now)) }
-{
-    match request.span(parameter) {
-        Some(span) => (span.offset as u8, span.length as u8),
-        None => (0, 0),
+impl<'a> Shown<'a> {
+    fn of(frame: &Frame<'a>) -> Shown<'a>
+        requires { Small (parts_of frame.now.request) }
+        ensures code { result.code ≡ frame.now.code }
+        ensures request { result.request ≡ frame.now.request }
+    {
+        Shown {
+            code: frame.code(),
+            request: frame.request(),
+        }
+    }
+
+    // The code, then each parameter's offset and length: the bytes that the header promises, one by one.
+    fn row(&self) -> [u8; SHOWN]
+        ensures { result ≡ shown_of self.now.code (parts_of self.now.request) }
+    {
+        let (serial, serial_length) = self.pair(Parameter::Serial);
+        let (address, address_length) = self.pair(Parameter::Address);
+        let (mask, mask_length) = self.pair(Parameter::Mask);
+        let (word, word_length) = self.pair(Parameter::Word);
+        let (block, block_length) = self.pair(Parameter::Data);
+        let (length, length_length) = self.pair(Parameter::Length);
+        let (ignored, ignored_length) = self.pair(Parameter::Ignored);
+        [
+            self.code,
+            serial,
+            serial_length,
+            address,
+            address_length,
+            mask,
+            mask_length,
+            word,
+            word_length,
+            block,
+            block_length,
+            length,
+            length_length,
+            ignored,
+            ignored_length,
+        ]
+    }
+
+    // Offset and length of a parameter, and zeros where the frame has none.
+    fn pair(&self, parameter: Parameter) -> (u8, u8)
+        ensures offset { result.0 ≡ offset_in (span_of parameter (parts_of self.now.request)) }
+        ensures length { result.1 ≡ length_in (span_of parameter (parts_of self.now.request)) }
+    {
+        match self.request.span(parameter) {
+            Some(span) => (span.offset as u8, span.length as u8),
+            None => (0, 0),
+        }
     }
 }

@@ -1,13 +1,9 @@
-use Rattle.std.proofs.Common.{ℕ, List, ◌++◌, length, drop, sym, ap, ◌∙◌}
-use Rattle.std.proofs.lemmas.Bool.{le-ltb, cond-false}
+use Rattle.std.proofs.Common.{◌≡◌, length, ap, arith}
+use Rattle.std.proofs.lemmas.List.{length-take}
 use Rattle.panel.proofs.show.Goals as goal
 
-pub returns : goal.returns
-returns c =
-    let room = le-ltb (length c.args.shown.now) 15 c.if-shown-lt-SHOWN.false in
-    record {
-      answer = sym (cond-false _ _ _ room);
-      shown =
-          ap (λ (xs : List ℕ). xs ++ drop 15 c.args.shown.now) (c.copy_from_slice.ensures.after ∙ c.row.ensures)
-          ∙ sym (cond-false _ _ _ room);
-    }
+-- The row has its 15 bytes.
+pub copy_from_slice-requires : goal.copy_from_slice-requires
+copy_from_slice-requires c =
+    let size : length c.row.result ≡ 15 = ap length c.row.ensures in
+    simp length-take (omega arith)
