@@ -1,14 +1,17 @@
 // A refusal that hands back what the call was given.
-ghost use Rattle.std.specs.Prelude.{◌≡◌};
-ghost use Rattle.field.specs.Declining.{misfit_number};
+ghost use Rattle.std.specs.Prelude.{◌≡◌, Some};
+ghost use Rattle.field.specs.Declining.{misfit_number, misfit_name};
+
+use std::error::Error;
+use std::fmt;
 
 // Why a field cannot be made of what is given, each with its number.
 #[derive(Clone, Copy, PartialEq, Eq, Debug)]
 pub enum Misfit {
     // More than 64 places.
-    Crowd,
+    Crowd = 6,
     // A spoiler that would spoil each reply of no number.
-    Period,
+    Period = 11,
 }
 
 #[derive(Drop)]
@@ -22,9 +25,27 @@ impl Misfit {
     pub fn number(self) -> u8
         ensures { result ≡ misfit_number self }
     {
-        match self {
-            Misfit::Crowd => 6,
-            Misfit::Period => 11,
-        }
+        self as u8
     }
 }
+
+impl From<Misfit> for u8 {
+    ghost from_gives = { λ misfit number. number ≡ misfit_number misfit };
+
+    fn from(misfit: Misfit) -> u8 {
+        misfit.number()
+    }
+}
+
+impl fmt::Display for Misfit {
+    ghost output = { λ misfit. Some (misfit_name misfit) };
+
+    fn fmt<W: fmt::Write>(&self, f: &mut fmt::Formatter<W>) -> fmt::Result {
+        f.pad(match self {
+            Misfit::Crowd => "crowd",
+            Misfit::Period => "period",
+        })
+    }
+}
+
+impl Error for Misfit {}

@@ -101,7 +101,5 @@ fn clear(buffer: &mut [u8])
     requires { 258 ≤ length buffer.old }
     ensures { buffer.new ≡ padded 258 [] ++ drop 258 buffer.old }
 {
-    for place in 0..ROOM {
-        buffer[place] = 0;
-    }
+    buffer[..ROOM].fill(0);
 }

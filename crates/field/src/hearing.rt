@@ -7,11 +7,11 @@ use std::fmt;
 #[derive(Clone, Copy, PartialEq, Eq, Debug)]
 pub enum Hearing {
     // No reply.
-    Silence,
+    Silence = 0,
     // One reply, which can be read.
-    Lone,
+    Lone = 1,
     // Several replies at once, or one that was spoiled on its way.
-    Clash,
+    Clash = 2,
 }
 
 impl Hearing {
@@ -19,11 +19,7 @@ impl Hearing {
     pub fn number(self) -> u8
         ensures { result ≡ hearing_number self }
     {
-        match self {
-            Hearing::Silence => 0,
-            Hearing::Lone => 1,
-            Hearing::Clash => 2,
-        }
+        self as u8
     }
 
     pub fn name(self) -> &'static str
@@ -37,11 +33,18 @@ impl Hearing {
     }
 }
 
+impl From<Hearing> for u8 {
+    ghost from_gives = { λ hearing number. number ≡ hearing_number hearing };
+
+    fn from(hearing: Hearing) -> u8 {
+        hearing.number()
+    }
+}
+
 impl fmt::Display for Hearing {
     ghost output = { λ h. Some (hearing_name h) };
 
     fn fmt<W: fmt::Write>(&self, f: &mut fmt::Formatter<W>) -> fmt::Result {
-        let name = self.name();
-        write!(f, "{name}")
+        f.pad(self.name())
     }
 }

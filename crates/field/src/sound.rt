@@ -19,10 +19,7 @@ impl Sound {
     pub fn of(place: usize, reply: Option<Reply>) -> Sound
         ensures { result ≡ sound_of place reply }
     {
-        match reply {
-            Some(reply) => Sound::Lone { place, reply },
-            None => Sound::Silence,
-        }
+        reply.map_or(Sound::Silence, |reply| Sound::Lone { place, reply })
     }
 
     pub fn hearing(self) -> Hearing
