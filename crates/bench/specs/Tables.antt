@@ -1,7 +1,6 @@
 -- Tables of tags. Assumes nothing.
-use Rattle.std.specs.Prelude.{◌≡◌, ℕ, suc, ◌≤◌, Bool, true, false, cond, List, [], ◌∷◌, length, Some, None, Option, nat_le, refl}
+use Rattle.std.specs.Prelude.{◌≡◌, ℕ, ◌≤◌, Bool, true, false, cond, List, [], ◌∷◌, length, position, Option, nat_le, refl}
 use Rattle.std.proofs.Common.{zero-le, leb-true}
-use Rattle.std.specs.Option.{option_map}
 use Rattle.record.specs.declared.Tag.{Tag}
 use Rattle.tag.specs.Steps.{is_meant}
 
@@ -10,9 +9,8 @@ abbrev pub meant : List Tag → List Tag
 meant table = cond (nat_le (length table) 64) table []
 
 -- The first place with a serial number, if one has it.
-unfoldable pub place_of : List Tag → List ℕ → Option ℕ
-place_of [] serial = None
-place_of (t ∷ ts) serial = cond (is_meant t serial) (Some 0) (option_map suc (place_of ts serial))
+abbrev pub place_of : List Tag → List ℕ → Option ℕ
+place_of table serial = position (λ t. is_meant t serial) table
 
 few_when : (table : List Tag) (fits : Bool) → nat_le (length table) 64 ≡ fits → length (cond fits table []) ≤ 64
 few_when table true e = leb-true (length table) 64 e

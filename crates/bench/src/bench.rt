@@ -1,6 +1,5 @@
 // A table of tags that is the caller's, played as a field.
 ghost use Rattle.std.specs.Prelude.{◌≡◌, true, [], length, IfErr, if◌then◌else◌, Some, None, OnOk, nat_le};
-ghost use Rattle.tag.specs.Steps.{is_meant};
 ghost use Rattle.field.specs.Airs.{plainly};
 ghost use Rattle.field.specs.Declining.{declined_by};
 ghost use Rattle.field.specs.Sends.{on_air};
@@ -12,7 +11,7 @@ use field::field::{Field, PLACES};
 use field::sound::Sound;
 use frame::opening::Frame;
 use protocol::refusal::Refusal;
-use record::{SERIAL, Tag};
+use record::Tag;
 
 #[derive(Drop)]
 pub struct Bench<'a> {
@@ -63,18 +62,7 @@ impl<'a> Bench<'a> {
 pub fn place_of(table: &[Tag], serial: &[u8]) -> Option<usize>
     ensures { result ≡ place_of table.now serial.now }
 {
-    for (place, tag) in table.iter().enumerate() {
-        if has_serial(tag, serial) {
-            return Some(place);
-        }
-    }
-    None
-}
-
-fn has_serial(tag: &Tag, serial: &[u8]) -> bool
-    ensures { result ≡ is_meant tag.now serial.now }
-{
-    &tag.memory[..SERIAL] == serial
+    table.iter().position(|tag| tag.has_serial(serial))
 }
 
 impl<'a> Field for Bench<'a> {

@@ -18,8 +18,8 @@ pub(crate) fn step_all(table: &mut [Tag], opened: &Result<Frame<'_>, Refusal>, r
 {
     let mut sound = Sound::Silence;
     let mut coins = row;
-    for place in 0..table.len() {
-        let reply = step(&mut table[place], opened, coins % 2 == 1);
+    for (place, tag) in table.iter_mut().enumerate() {
+        let reply = step(tag, opened, coins % 2 == 1);
         sound = sound.blend(Sound::of(place, reply));
         coins /= 2;
     }
