@@ -1,9 +1,9 @@
 // A table of tags that is the caller's, played as a field.
-ghost use Rattle.std.specs.Prelude.{◌≡◌, true, [], length, IfErr, if◌then◌else◌, Some, None, OnOk, nat_le};
+ghost use Rattle.std.specs.Prelude.{◌≡◌, ◌≤◌, true, [], length, IfErr, if◌then◌else◌, Some, None, OnOk, nat_le};
 ghost use Rattle.field.specs.Airs.{plainly};
 ghost use Rattle.field.specs.Declining.{declined_by};
 ghost use Rattle.field.specs.Sends.{on_air};
-ghost use Rattle.bench.specs.Tables.{meant, meant_few, place_of};
+ghost use Rattle.bench.specs.Tables.{place_of};
 
 use crate::walk::{pass_all, step_all};
 use field::declined::{Declined, Misfit};
@@ -16,6 +16,7 @@ use record::Tag;
 #[derive(Drop)]
 pub struct Bench<'a> {
     table: &'a mut [Tag],
+    ghost few: { length table.now ≤ 64 },
 }
 
 impl<'a> Bench<'a> {
@@ -66,30 +67,22 @@ pub fn place_of(table: &[Tag], serial: &[u8]) -> Option<usize>
 }
 
 impl<'a> Field for Bench<'a> {
-    ghost tags = { λ b. meant b.table.now };
+    ghost tags = { λ b. b.table.now };
 
-    ghost few = { λ b. meant_few b.table.now };
+    ghost few = { λ b. b.few };
 
     ghost faithful = { true };
 
-    ghost hears = { λ b frame row h c. (h ≡ plainly (on_air frame row (meant b.table.now))) × (c.table.ghost_name ≡ b.table.ghost_name) };
+    ghost hears = { λ b frame row h c. (h ≡ plainly (on_air frame row b.table.now)) × (c.table.ghost_name ≡ b.table.ghost_name) };
 
     ghost waits = { λ b _ c. c.table.ghost_name ≡ b.table.ghost_name };
 
     fn places(&self) -> usize {
-        if self.table.len() > PLACES {
-            0
-        } else {
-            self.table.len()
-        }
+        self.table.len()
     }
 
     fn tag(&self, place: usize) -> Option<&Tag> {
-        if self.table.len() > PLACES {
-            None
-        } else {
-            self.table.get(place)
-        }
+        self.table.get(place)
     }
 
     fn pass(&mut self, microseconds: u32) {
@@ -97,9 +90,6 @@ impl<'a> Field for Bench<'a> {
     }
 
     fn listen(&mut self, opened: &Result<Frame<'_>, Refusal>, row: u64) -> Sound {
-        if self.table.len() > PLACES {
-            return Sound::Silence;
-        }
         step_all(self.table, opened, row)
     }
 }
