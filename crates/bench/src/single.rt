@@ -1,6 +1,7 @@
 // One tag on its own.
 ghost use Rattle.std.specs.Prelude.{◌≡◌, true, [], ◌∷◌};
 ghost use Rattle.std.proofs.Common.{lit≤};
+ghost use Rattle.record.specs.declared.Tag.{Tag};
 ghost use Rattle.field.specs.Airs.{plainly};
 ghost use Rattle.field.specs.Sends.{on_air};
 
@@ -9,6 +10,7 @@ use field::sound::Sound;
 use frame::opening::Frame;
 use protocol::refusal::Refusal;
 use record::Tag;
+use std::marker::Model;
 use tag::step;
 
 #[derive(Clone, Copy)]
@@ -16,29 +18,38 @@ pub struct Single {
     tag: Tag,
 }
 
+// To its users it is the tag.
+impl Model for Single {
+    ghost Value = { Tag };
+
+    ghost view = { λ s. s.tag };
+
+    ghost inverse = { λ t. record { tag = t } };
+}
+
 impl Single {
     pub fn new(tag: Tag) -> Single
-        ensures { result.tag ≡ tag }
+        ensures { result ≡ tag }
     {
         Single { tag }
     }
 
     // Gives the tag back.
     pub fn into_tag(self) -> Tag
-        ensures { result ≡ self.tag }
+        ensures { result ≡ self }
     {
         self.tag
     }
 }
 
 impl Field for Single {
-    ghost tags = { λ s. s.tag ∷ [] };
+    ghost tags = { λ s. s ∷ [] };
 
     ghost few = { λ _. lit≤ tt };
 
     ghost faithful = { true };
 
-    ghost hears = { λ s frame row h _. h ≡ plainly (on_air frame row (s.tag ∷ [])) };
+    ghost hears = { λ s frame row h _. h ≡ plainly (on_air frame row (s ∷ [])) };
 
     ghost waits = { λ _ _ _. Unit {0} };
 
