@@ -1,5 +1,5 @@
 // Masks, and what they select of the bytes from an address on.
-ghost use Rattle.std.specs.Prelude.{◌≡◌, ◌+◌, ◌<◌, slice_index, slice_set};
+ghost use Rattle.std.specs.Prelude.{◌≡◌, ◌+◌, slice_index, slice_set};
 ghost use Rattle.record.specs.Masks.{selects, agrees_at, matches, stored_at, stored};
 ghost use Rattle.record.specs.Records.{remembering};
 
@@ -50,41 +50,35 @@ struct Masked<'a> {
     bytes: &'a [u8],
 }
 
-// A place is below 8 by the range that it comes from: a type for it would be made of a number at each turn of both
-// loops, only to say so again.
 impl Masked<'_> {
     // Whether the mask selects the byte at a place: its bits stand for the places, the highest for the first.
-    fn selects(&self, place: usize) -> bool
-        requires { place < 8 }
+    fn selects(&self, place: u8) -> bool
         ensures { result ≡ selects self.now.mask place }
     {
-        (self.mask >> (7 - place)) % 2 == 1
+        (self.mask >> 7u8.saturating_sub(place)) % 2 == 1
     }
 
-    fn address_of(&self, place: usize) -> usize
-        requires { place < 8 }
+    fn address_of(&self, place: u8) -> usize
         ensures { result ≡ self.now.address + place }
     {
-        usize::from(self.address) + place
+        usize::from(self.address) + usize::from(place)
     }
 
-    fn byte(&self, place: usize) -> u8
+    fn byte(&self, place: u8) -> u8
         ensures { result ≡ slice_index self.now.bytes.now place }
     {
-        element(self.bytes, place, 0)
+        element(self.bytes, usize::from(place), 0)
     }
 
     // Whether the byte of a tag at a place is the wanted one, or not selected.
-    fn agrees_at(&self, tag: &Tag, place: usize) -> bool
-        requires { place < 8 }
+    fn agrees_at(&self, tag: &Tag, place: u8) -> bool
         ensures { result ≡ agrees_at tag.now.memory self.now.address self.now.mask self.now.bytes.now place }
     {
         !self.selects(place) || tag.byte(self.address_of(place)) == self.byte(place)
     }
 
     // Stores the byte at a place, if it is selected.
-    fn store_at(&self, tag: &mut Tag, place: usize)
-        requires { place < 8 }
+    fn store_at(&self, tag: &mut Tag, place: u8)
         ensures { tag.new ≡ remembering (stored_at self.now.address self.now.mask self.now.bytes.now tag.old.memory place) tag.old }
     {
         if self.selects(place) {
