@@ -1,7 +1,6 @@
 -- A frame taken apart into code, parameters and check value. Assumes nothing.
-use Rattle.std.proofs.Common.{◌≡◌, ℕ, suc, ◌+◌, ◌-◌, ◌*◌, ◌/◌, ◌%◌, ◌<◌, ◌≤◌, true, false, List, [], ◌∷◌, ◌++◌, length, get_or, take, drop, fold, sym, ap, ◌∙◌, ⊎_elim, arith}
-use Rattle.std.specs.Str.{bytes_eq}
-use Rattle.std.proofs.lemmas.List.{append_cancel_left, take-append-drop, drop_more, drop_all, take_at, length-append, length-take, length-drop}
+use Rattle.std.proofs.Common.{◌≡◌, ℕ, ◌+◌, ◌-◌, ◌*◌, ◌/◌, ◌%◌, ◌<◌, ◌≤◌, true, false, List, [], ◌∷◌, ◌++◌, length, get_or, take, drop, fold, sym, ap, ◌∙◌, ⊎_elim, arith}
+use Rattle.std.proofs.lemmas.List.{append_cancel_left, take-append-drop, drop-take, drop_more, drop_all, take_at, get_or-take, length-append, length-take, length-drop}
 use Rattle.std.proofs.lemmas.Bool.{cases_Bool}
 use Rattle.std.proofs.lemmas.Slice.Eq.{bytes_eq-Decides}
 use Rattle.crc.specs.Check.{byte_taken, check_value, sent, sealed}
@@ -39,54 +38,58 @@ pub comes_to : (code : ℕ) (message : List ℕ) {a b d v : ℕ} → a ≡ 0xfff
 comes_to x m p q r s =
     s ∙ ap (λ (y : ℕ). 0xffff - y) (r ∙ ap (λ (y : ℕ). fold byte_taken y m) (q ∙ ap (λ (y : ℕ). byte_taken y x) p))
 
-module _ (code : ℕ) (rest : List ℕ) (long : 2 ≤ length rest) where
-  -- what the patterns for both ends bind
-  abbrev parameters : List ℕ
-  parameters = take (length rest - 2) rest
-
+module _ (frame : List ℕ) (long : 3 ≤ length frame) where
+  -- the two bytes behind the parameters
   abbrev high : ℕ
-  high = get_or rest (length rest - 2) 0
+  high = get_or frame (length frame - 2) 0
 
   abbrev low : ℕ
-  low = get_or rest (length rest - 1) 0
+  low = get_or frame (length frame - 1) 0
 
-  rest_apart : rest ≡ parameters ++ high ∷ low ∷ []
-  rest_apart =
-      let n : ℕ = length rest - 2 in
-      let m : n + 1 ≡ length rest - 1 = omega arith in
-      sym (take-append-drop n rest)
-      ∙ ap (λ (xs : List ℕ). parameters ++ xs)
-      (drop_more rest n 0 (omega arith)
-      ∙ ap (λ (xs : List ℕ). high ∷ xs)
-      (ap (λ (k : ℕ). drop k rest) m ∙ drop_more rest (length rest - 1) 0 (omega arith)
-      ∙ ap (λ (xs : List ℕ). low ∷ xs) (drop_all (length rest - 1 + 1) rest (omega arith))))
-
-  pub front-is : front (code ∷ rest) ≡ code ∷ parameters
+  pub front_length : length (front frame) + 2 ≡ length frame
   unfolding front
-  front-is = let e : suc (length rest) - 2 ≡ suc (length rest - 2) = omega arith in ap (λ (k : ℕ). take k (code ∷ rest)) e
+  front_length = simp length-take (omega arith)
 
-  pub parameters_are : parameters_of (code ∷ rest) ≡ parameters
-  unfolding parameters_of
-  parameters_are = ap (drop 1) front-is
+  pub front_apart : front frame ≡ get_or frame 0 0 ∷ parameters_of frame
+  unfolding front parameters_of
+  front_apart =
+      drop_more (take (length frame - 2) frame) 0 0 (omega (arith, front_length))
+      ∙ ap (λ (n : ℕ). n ∷ drop 1 (take (length frame - 2) frame)) (get_or-take (length frame - 2) frame 0 0 (omega arith))
 
-  sealed-is : is_sealed (code ∷ rest) ≡ bytes_eq (code ∷ rest) (sealed (code ∷ parameters))
-  unfolding is_sealed
-  sealed-is = ap (λ (xs : List ℕ). bytes_eq (code ∷ rest) (sealed xs)) front-is
+  -- What the pattern for both ends binds.
+  pub parameters_are : parameters_of frame ≡ take (length frame - 2 - 1) (drop 1 frame)
+  unfolding front parameters_of
+  parameters_are =
+      let n : length frame - 2 ≡ 1 + (length frame - 2 - 1) = omega arith in
+      ap (λ (k : ℕ). drop 1 (take k frame)) n ∙ drop-take 1 (length frame - 2 - 1) frame
 
-  pub right : check_value (code ∷ parameters) ≡ high * 256 + low → high < 256 → low < 256 → is_sealed (code ∷ rest) ≡ true
-  unfolding sealed
+  pub front-is : front frame ≡ get_or frame 0 0 ∷ take (length frame - 2 - 1) (drop 1 frame)
+  front-is = front_apart ∙ ap (λ (xs : List ℕ). get_or frame 0 0 ∷ xs) parameters_are
+
+  whole : frame ≡ front frame ++ high ∷ low ∷ []
+  unfolding front
+  whole =
+      let n : ℕ = length frame - 2 in
+      let m : n + 1 ≡ length frame - 1 = omega arith in
+      sym (take-append-drop n frame)
+      ∙ ap (λ (xs : List ℕ). take n frame ++ xs)
+      (drop_more frame n 0 (omega arith)
+      ∙ ap (λ (xs : List ℕ). high ∷ xs)
+      (ap (λ (k : ℕ). drop k frame) m ∙ drop_more frame (length frame - 1) 0 (omega arith)
+      ∙ ap (λ (xs : List ℕ). low ∷ xs) (drop_all (length frame - 1 + 1) frame (omega arith))))
+
+  pub right : check_value (front frame) ≡ high * 256 + low → high < 256 → low < 256 → is_sealed frame ≡ true
+  unfolding sealed is_sealed
   right e h l =
-      sealed-is
-      ∙ (bytes_eq-Decides (code ∷ rest) (sealed (code ∷ parameters))).1
-      (ap (λ (xs : List ℕ). code ∷ xs) (rest_apart ∙ ap (λ (xs : List ℕ). parameters ++ xs) (sym (two_bytes _ high low e h l))))
+      (bytes_eq-Decides frame (sealed (front frame))).1
+      (whole ∙ ap (λ (xs : List ℕ). front frame ++ xs) (sym (two_bytes _ high low e h l)))
 
-  pub wrong : (check_value (code ∷ parameters) ≡ high * 256 + low → ⊥) → is_sealed (code ∷ rest) ≡ false
-  unfolding sealed
+  pub wrong : (check_value (front frame) ≡ high * 256 + low → ⊥) → is_sealed frame ≡ false
+  unfolding sealed is_sealed
   wrong other =
       ⊎_elim
       (λ t.
-      let same : code ∷ rest ≡ code ∷ (parameters ++ sent (check_value (code ∷ parameters))) =
-      (bytes_eq-Decides (code ∷ rest) (sealed (code ∷ parameters))).0 (sym sealed-is ∙ t) in
-      absurd (other (of_two _ high low (check_value-fits (code ∷ parameters))
-      (sym (append_cancel_left parameters (high ∷ low ∷ []) (sent (check_value (code ∷ parameters))) (sym rest_apart ∙ ap (drop 1) same))))))
-      (λ f. f) (cases_Bool (is_sealed (code ∷ rest)))
+      let same : frame ≡ front frame ++ sent (check_value (front frame)) = (bytes_eq-Decides frame (sealed (front frame))).0 t in
+      absurd (other (of_two _ high low (check_value-fits (front frame))
+      (sym (append_cancel_left (front frame) (high ∷ low ∷ []) (sent (check_value (front frame))) (sym whole ∙ same))))))
+      (λ f. f) (cases_Bool (is_sealed frame))

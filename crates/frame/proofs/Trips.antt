@@ -1,7 +1,7 @@
 -- Making and opening undo each other. Assumes nothing.
 use Rattle.std.proofs.Common.{◌≡◌, ℕ, ◌+◌, ◌-◌, ◌≤◌, true, List, [], ◌∷◌, ◌++◌, length, get_or, take, drop, Some, sym, refl, ap, ◌∙◌, subst, arith}
 use Rattle.std.proofs.lemmas.Slice.Eq.{bytes_eq-Decides}
-use Rattle.std.proofs.lemmas.List.{nil_from_length, take-append-drop, take_at, take-append-le, drop-append-le, drop-drop, drop_more, get_or-take, length-drop, length-take, length-append}
+use Rattle.std.proofs.lemmas.List.{nil_from_length, take-append-drop, take_at, take-append-le, drop-append-le, drop-drop, length-drop, length-take, length-append}
 use Rattle.crc.specs.Check.{sent, check_value, sealed}
 use Rattle.protocol.specs.declared.command.Command.{Command}
 use Rattle.protocol.specs.declared.command.Parameter.{Parameter}
@@ -12,7 +12,7 @@ use Rattle.frame.specs.Openings.{opened, front, is_sealed, parameters_of}
 use Rattle.frame.specs.Parts.{placed, bytes_in, Within}
 use Rattle.frame.proofs.Opens.{opens}
 use Rattle.frame.proofs.Makes.{makes}
-use Rattle.frame.proofs.Seals.{front-sealed, length_parameters}
+use Rattle.frame.proofs.Seals.{front-sealed, front_length, front_apart, length_parameters}
 
 -- The parameters, placed, are the bytes that were there.
 pub bytes_in-placed : (offset : ℕ) (ps : List Parameter) (bytes : List ℕ) → length bytes ≡ sizes ps → bytes_in (placed offset ps bytes) ≡ bytes
@@ -76,21 +76,11 @@ module _ (frame : List ℕ) (h : 3 ≤ length frame) (s : is_sealed frame ≡ tr
   unfolding is_sealed
   is-front-sealed = (bytes_eq-Decides frame (sealed (front frame))).0 s
 
-  front_length : length (front frame) + 2 ≡ length frame
-  unfolding front
-  front_length = simp length-take (omega arith)
-
-  front_apart : front frame ≡ get_or frame 0 0 ∷ parameters_of frame
-  unfolding front parameters_of
-  front_apart =
-      drop_more (take (length frame - 2) frame) 0 0 (omega (arith, front_length))
-      ∙ ap (λ (n : ℕ). n ∷ drop 1 (take (length frame - 2) frame)) (get_or-take (length frame - 2) frame 0 0 (omega arith))
-
   behind_code : drop 1 frame ≡ parameters_of frame ++ drop (length frame - 2) frame
   unfolding front parameters_of
   behind_code =
       ap (drop 1) (sym (take-append-drop (length frame - 2) frame))
-      ∙ drop-append-le 1 (take (length frame - 2) frame) (drop (length frame - 2) frame) (omega (arith, front_length))
+      ∙ drop-append-le 1 (take (length frame - 2) frame) (drop (length frame - 2) frame) (omega (arith, front_length frame h))
 
   module _ (c : Command) (e : named (get_or frame 0 0) ≡ Some c) (l : length frame ≡ length_of c) where
     parameters-fit : length (parameters_of frame) ≡ sizes (layout c)
@@ -106,4 +96,4 @@ module _ (frame : List ℕ) (h : 3 ≤ length frame) (s : is_sealed frame ≡ tr
         let k : code_of c ≡ get_or frame 0 0 = named_code (get_or frame 0 0) c e in
         ap (λ (xs : List ℕ). making (code_of c) xs (length frame)) (bytes_in-placed 1 (layout c) (parameters_of frame) parameters-fit)
         ∙ makes (code_of c) (parameters_of frame) (length frame) c (ap named k ∙ e) (omega (arith, parameters-fit)) (omega arith)
-        ∙ ap made (ap (λ (n : ℕ). sealed (n ∷ parameters_of frame)) k ∙ ap sealed (sym front_apart) ∙ sym is-front-sealed)
+        ∙ ap made (ap (λ (n : ℕ). sealed (n ∷ parameters_of frame)) k ∙ ap sealed (sym (front_apart frame h)) ∙ sym is-front-sealed)

@@ -74,10 +74,7 @@ impl<'a> Sealed<'a> {
         ensures bytes { IfOk result (λ s. s.bytes.now ≡ bytes.now) }
         ensures refusal { IfErr result (λ e. opening bytes.now ≡ refused (number_of e)) }
     {
-        let [code, rest @ ..] = bytes else {
-            return Err(Refusal::Stub);
-        };
-        let [parameters @ .., high, low] = rest else {
+        let [code, parameters @ .., high, low] = bytes else {
             return Err(Refusal::Stub);
         };
         let mut register = Register::preset();
