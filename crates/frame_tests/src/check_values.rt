@@ -68,11 +68,7 @@ fn value(register: &Register) -> u16 {
 #[test]
 fn bit_by_bit(rt: HostRuntime) {
     let mut register = Register::preset();
-    for (bit, expected) in AFTER_BITS {
-        register.take_bit(bit);
-        assert_eq!(rt; value(&register), expected);
-    }
-    for (bit, expected) in RUNNING_EMPTY {
+    for (bit, expected) in AFTER_BITS.into_iter().chain(RUNNING_EMPTY) {
         register.take_bit(bit);
         assert_eq!(rt; value(&register), expected);
     }

@@ -10,18 +10,8 @@ const WRITE: [u8; 17] = [
     0xb4,
 ];
 
-fn refusal(bytes: &[u8]) -> Option<Refusal> {
-    match open(bytes) {
-        Ok(_) => None,
-        Err(refusal) => Some(refusal),
-    }
-}
-
 fn command(bytes: &[u8]) -> Option<Command> {
-    match open(bytes) {
-        Ok(frame) => Some(frame.request().command()),
-        Err(_) => None,
-    }
+    open(bytes).ok().map(|frame| frame.request().command())
 }
 
 #[test]
@@ -34,12 +24,12 @@ fn bare_frames(rt: HostRuntime) {
 
 #[test]
 fn refusals_in_their_order(rt: HostRuntime) {
-    assert_eq!(rt; refusal(&[]), Some(Refusal::Stub));
-    assert_eq!(rt; refusal(&[0x09, 0x8f]), Some(Refusal::Stub));
-    assert_eq!(rt; refusal(&[0x09, 0x8f, 0x27]), Some(Refusal::Check));
-    assert_eq!(rt; refusal(&[0x02, 0x3e, 0x4c]), Some(Refusal::Check));
-    assert_eq!(rt; refusal(&[0x02, 0x3e, 0x4d]), Some(Refusal::Code));
-    assert_eq!(rt; refusal(&[0x0c, 0xdf, 0x83]), Some(Refusal::Length));
+    assert_eq!(rt; open(&[]).err(), Some(Refusal::Stub));
+    assert_eq!(rt; open(&[0x09, 0x8f]).err(), Some(Refusal::Stub));
+    assert_eq!(rt; open(&[0x09, 0x8f, 0x27]).err(), Some(Refusal::Check));
+    assert_eq!(rt; open(&[0x02, 0x3e, 0x4c]).err(), Some(Refusal::Check));
+    assert_eq!(rt; open(&[0x02, 0x3e, 0x4d]).err(), Some(Refusal::Code));
+    assert_eq!(rt; open(&[0x0c, 0xdf, 0x83]).err(), Some(Refusal::Length));
 }
 
 #[test]
@@ -51,49 +41,38 @@ fn refusals_by_number(rt: HostRuntime) {
     assert_eq!(rt; Refusal::Buffer.number(), 5);
 }
 
+fn span(offset: usize, length: usize) -> Option<Span> {
+    Some(Span { offset, length })
+}
+
 #[test]
 fn parameters_of_write(rt: HostRuntime) -> Result<(), Fail> {
-    let Ok(frame) = open(&WRITE) else {
-        return Err(Fail::new("WRITE does not open"));
-    };
+    let frame = open(&WRITE)?;
     assert_eq!(rt; frame.code(), 0x1b);
-    let request = frame.request();
     let spans = [
-        Some(Span {
-            offset: 1,
-            length: 8,
-        }),
-        Some(Span {
-            offset: 9,
-            length: 1,
-        }),
-        Some(Span {
-            offset: 10,
-            length: 1,
-        }),
-        None,
-        Some(Span {
-            offset: 11,
-            length: 4,
-        }),
-        None,
-        None,
+        (Parameter::Serial, span(1, 8)),
+        (Parameter::Address, span(9, 1)),
+        (Parameter::Mask, span(10, 1)),
+        (Parameter::Word, None),
+        (Parameter::Data, span(11, 4)),
+        (Parameter::Length, None),
+        (Parameter::Ignored, None),
     ];
-    for (parameter, span) in PARAMETERS.iter().zip(spans.iter()) {
-        assert_eq!(rt; request.span(*parameter), *span);
+    let request = frame.request();
+    // The list of all parameters has them in this order.
+    for ((parameter, expected), listed) in spans.into_iter().zip(PARAMETERS) {
+        assert_eq!(rt; request.span(parameter), expected);
+        assert_eq!(rt; request.span(listed), expected);
     }
-    assert_eq!(rt; request.span(Parameter::Word), None);
     Ok(())
 }
 
 // Any one bit wrong makes the check value wrong.
 #[test]
 fn single_bits(rt: HostRuntime) {
-    for i in 0..WRITE.len() {
-        for bit in 0..8u32 {
-            let mut damaged = WRITE;
-            damaged[i] ^= 1u8 << bit;
-            assert_eq!(rt; refusal(&damaged), Some(Refusal::Check));
-        }
+    for bit in 0..8 * WRITE.len() {
+        let mut damaged = WRITE;
+        damaged[bit / 8] ^= 1 << (bit % 8);
+        assert_eq!(rt; open(&damaged).err(), Some(Refusal::Check));
     }
 }
