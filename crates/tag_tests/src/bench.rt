@@ -1,14 +1,18 @@
 // What the tests share: a tag, frames sent to it, and the replies that are expected.
+ghost use Rattle.std.specs.Prelude.{◌≤◌};
+
 use frame::making::make;
 use frame::writer::Writer;
-use record::{SIZE, State, Tag};
+use protocol::refusal::Refusal;
+use record::{State, Tag, WriteMark};
+use std::array;
 use std::process::Abort;
 use std::test::Fail;
 use tag::hear;
 
 pub(crate) const SERIAL: [u8; 8] = [0xef, 0x04, 0x02, 0x00, 0x00, 0x00, 0x00, 0x01];
 
-// The codes of the commands with parameters.
+// The codes of the commands with parameters. They are values from outside, and so are not taken from `Command`.
 pub(crate) const SELECT: u8 = 0x00;
 
 pub(crate) const UNSELECT_NE: u8 = 0x05;
@@ -58,113 +62,126 @@ pub(crate) const OWN: [u8; 10] = [0x00, 0xc0, 0xef, 0x04, 0x00, 0x00, 0x00, 0x00
 
 // A new tag, whose bytes behind the serial number are 80 more than their addresses.
 pub(crate) fn new_tag() -> Tag {
-    let mut memory = rising();
-    memory[0..8].copy_from_slice(&SERIAL);
+    let mut memory = array::from_fn(|address| 0x80 + address as u8);
+    memory[..8].copy_from_slice(&SERIAL);
     Tag::new(memory)
-}
-
-fn rising() -> [u8; SIZE] {
-    let mut bytes = [0u8; SIZE];
-    let mut next = 0x80u8;
-    for address in 0..SIZE {
-        bytes[address] = next;
-        next = next.wrapping_add(1);
-    }
-    bytes
 }
 
 // State, ID flag, counter, mark and permission.
 type Parts = (State, bool, u8, u8, Option<u8>);
 
-// Whether all of these are as expected.
-pub(crate) fn check_parts(rt: &impl Abort, tag: &Tag, expected: Parts) {
-    let parts = (
-        tag.state,
-        tag.identified,
-        tag.counter,
-        tag.mark.number(),
-        tag.permission,
-    );
-    assert_eq!(rt; parts, expected);
+// A tag under test, and the handle by which a failed check ends the test.
+#[derive(Drop)]
+pub(crate) struct Trial<'a, R> {
+    rt: &'a R,
+    pub(crate) tag: Tag,
 }
 
-// Steps the tag on the bytes of a frame, and checks what it replies.
-pub(crate) fn tell(
-    rt: &impl Abort,
-    tag: &mut Tag,
-    frame: &[u8],
-    coin: bool,
-    expected: &[u8],
-) -> Result<(), Fail> {
-    let mut buffer = [0u8; 258];
-    let length = match hear(tag, frame, coin) {
-        Some(reply) => reply.write(tag, &mut buffer)?,
-        None => 0,
-    };
-    assert_eq!(rt; front(&buffer, length)?, expected);
-    Ok(())
+impl<'a, R: Abort> Trial<'a, R> {
+    pub(crate) fn new(rt: &'a R, tag: Tag) -> Trial<'a, R> {
+        Trial { rt, tag }
+    }
+
+    // Sets the tag's mark, as a write does.
+    pub(crate) fn refresh_mark(&mut self) {
+        self.tag.mark = WriteMark::Fresh;
+    }
+
+    // Has the next frame lock an address, as a read does.
+    pub(crate) fn permit(&mut self, address: u8) {
+        self.tag.permission = Some(address);
+    }
+
+    // Whether all parts are as expected.
+    pub(crate) fn check_parts(&self, expected: Parts) {
+        let parts = (
+            self.tag.state,
+            self.tag.identified,
+            self.tag.counter,
+            self.tag.mark.number(),
+            self.tag.permission,
+        );
+        assert_eq!(self.rt; parts, expected);
+    }
+
+    // Steps the tag on the bytes of a frame, and checks what it replies.
+    pub(crate) fn tell(&mut self, frame: &[u8], coin: bool, expected: &[u8]) -> Result<(), Fail> {
+        let heard = hear(&mut self.tag, frame, coin);
+        let reply = Filled::by(|buffer| match heard {
+            Some(reply) => reply.write(&self.tag, buffer),
+            None => Ok(0),
+        })?;
+        assert_eq!(self.rt; reply.bytes(), expected);
+        Ok(())
+    }
+
+    // The same with a frame that is made for it.
+    pub(crate) fn send(
+        &mut self,
+        code: u8,
+        parameters: &[u8],
+        expected: &[u8],
+    ) -> Result<(), Fail> {
+        let frame = Filled::by(|buffer| make(code, parameters, buffer))?;
+        self.tell(frame.bytes(), false, expected)
+    }
+
+    // The same with the tag's serial number in front of the parameters.
+    pub(crate) fn call(&mut self, code: u8, rest: &[u8], expected: &[u8]) -> Result<(), Fail> {
+        self.call_by(SERIAL, code, rest, expected)
+    }
+
+    // The same with any serial number.
+    pub(crate) fn call_by(
+        &mut self,
+        serial: [u8; 8],
+        code: u8,
+        rest: &[u8],
+        expected: &[u8],
+    ) -> Result<(), Fail> {
+        let parameters = Filled::by(|buffer| {
+            let mut writer = Writer::new(buffer);
+            writer.put(&serial)?;
+            writer.put(rest)?;
+            Ok(writer.filled())
+        })?;
+        self.send(code, parameters.bytes(), expected)
+    }
+
+    // The same for a reply that is told without its check value.
+    pub(crate) fn call_for(&mut self, code: u8, rest: &[u8], data: &[u8]) -> Result<(), Fail> {
+        let expected = Filled::by(|buffer| {
+            let mut writer = Writer::new(buffer);
+            writer.put(data)?;
+            writer.seal()?;
+            Ok(writer.filled())
+        })?;
+        self.call(code, rest, expected.bytes())
+    }
 }
 
-// The same with a frame that is made for it.
-pub(crate) fn send(
-    rt: &impl Abort,
-    tag: &mut Tag,
-    code: u8,
-    parameters: &[u8],
-    expected: &[u8],
-) -> Result<(), Fail> {
-    let mut buffer = [0u8; 17];
-    let length = make(code, parameters, &mut buffer)?;
-    tell(rt, tag, front(&buffer, length)?, false, expected)
+// The bytes that were written at the front of a buffer with room for the longest reply.
+#[derive(Clone, Copy)]
+struct Filled {
+    buffer: [u8; 258],
+    length: usize,
+    ghost fits: { length ≤ 258 },
 }
 
-// The same with the tag's serial number in front of the parameters.
-pub(crate) fn call(
-    rt: &impl Abort,
-    tag: &mut Tag,
-    code: u8,
-    rest: &[u8],
-    expected: &[u8],
-) -> Result<(), Fail> {
-    call_by(rt, tag, SERIAL, code, rest, expected)
-}
+impl Filled {
+    // What a call writes, which tells how much it is.
+    fn by<F: FnOnce(&mut [u8]) -> Result<usize, Refusal>>(write: F) -> Result<Filled, Fail>
+        requires { F.IsAlwaysCallable write }
+    {
+        let mut buffer = [0; 258];
+        let length = write(&mut buffer)?;
+        if length > buffer.len() {
+            return Err(Fail::new("longer than its buffer"));
+        }
+        Ok(Filled { buffer, length })
+    }
 
-// The same with any serial number.
-pub(crate) fn call_by(
-    rt: &impl Abort,
-    tag: &mut Tag,
-    serial: [u8; 8],
-    code: u8,
-    rest: &[u8],
-    expected: &[u8],
-) -> Result<(), Fail> {
-    let mut buffer = [0u8; 14];
-    let mut parameters = Writer::new(&mut buffer);
-    parameters.put(&serial)?;
-    parameters.put(rest)?;
-    let length = parameters.filled();
-    send(rt, tag, code, front(&buffer, length)?, expected)
-}
-
-// The same for a reply that is told without its check value.
-pub(crate) fn call_for(
-    rt: &impl Abort,
-    tag: &mut Tag,
-    code: u8,
-    rest: &[u8],
-    data: &[u8],
-) -> Result<(), Fail> {
-    let mut buffer = [0u8; 258];
-    let mut expected = Writer::new(&mut buffer);
-    expected.put(data)?;
-    expected.seal()?;
-    let length = expected.filled();
-    call(rt, tag, code, rest, front(&buffer, length)?)
-}
-
-fn front(buffer: &[u8], length: usize) -> Result<&[u8], Fail> {
-    match buffer.get(0..length) {
-        Some(bytes) => Ok(bytes),
-        None => Err(Fail::new("longer than its buffer")),
+    fn bytes(&self) -> &[u8] {
+        &self.buffer[..self.length]
     }
 }

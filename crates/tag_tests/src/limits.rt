@@ -5,52 +5,53 @@ use std::process::Abort;
 use std::test::Fail;
 
 fn singulated(counter: u8) -> Tag {
-    let mut tag = new_tag();
-    tag.state = State::Singulation;
-    tag.counter = counter;
-    tag
+    Tag {
+        state: State::Singulation,
+        counter,
+        ..new_tag()
+    }
 }
 
 #[test]
 fn the_counter_rises_to_ff(rt: HostRuntime) -> Result<(), Fail> {
-    let mut tag = singulated(0xfe);
-    tell(&rt, &mut tag, &QUERY, false, &SILENCE)?;
-    assert_eq!(rt; tag.counter, 0xff);
-    tell(&rt, &mut tag, &QUERY, true, &SILENCE)?;
-    assert_eq!(rt; tag.counter, 0xff);
-    tell(&rt, &mut tag, &SCROLL, true, &SILENCE)?;
-    assert_eq!(rt; tag.counter, 0xfe);
+    let mut trial = Trial::new(&rt, singulated(0xfe));
+    trial.tell(&QUERY, false, &SILENCE)?;
+    assert_eq!(rt; trial.tag.counter, 0xff);
+    trial.tell(&QUERY, true, &SILENCE)?;
+    assert_eq!(rt; trial.tag.counter, 0xff);
+    trial.tell(&SCROLL, true, &SILENCE)?;
+    assert_eq!(rt; trial.tag.counter, 0xfe);
     Ok(())
 }
 
 #[test]
 fn the_counter_falls_to_00(rt: HostRuntime) -> Result<(), Fail> {
-    let mut tag = singulated(0x02);
-    tell(&rt, &mut tag, &SCROLL, false, &SILENCE)?;
-    assert_eq!(rt; tag.counter, 0x01);
-    tell(&rt, &mut tag, &SCROLL, false, &REPLY_SERIAL)?;
-    assert_eq!(rt; tag.counter, 0x00);
-    tell(&rt, &mut tag, &SCROLL, false, &REPLY_SERIAL)?;
-    assert_eq!(rt; tag.counter, 0x00);
+    let mut trial = Trial::new(&rt, singulated(0x02));
+    trial.tell(&SCROLL, false, &SILENCE)?;
+    assert_eq!(rt; trial.tag.counter, 0x01);
+    trial.tell(&SCROLL, false, &REPLY_SERIAL)?;
+    assert_eq!(rt; trial.tag.counter, 0x00);
+    trial.tell(&SCROLL, false, &REPLY_SERIAL)?;
+    assert_eq!(rt; trial.tag.counter, 0x00);
     Ok(())
 }
 
 // Only at 00 does the coin decide.
 #[test]
 fn the_coin(rt: HostRuntime) -> Result<(), Fail> {
-    let mut tag = singulated(0x00);
-    tell(&rt, &mut tag, &QUERY, false, &REPLY_SERIAL)?;
-    assert_eq!(rt; tag.counter, 0x00);
-    tell(&rt, &mut tag, &QUERY, true, &SILENCE)?;
-    assert_eq!(rt; tag.counter, 0x01);
-    tell(&rt, &mut tag, &QUERY, false, &SILENCE)?;
-    assert_eq!(rt; tag.counter, 0x02);
+    let mut trial = Trial::new(&rt, singulated(0x00));
+    trial.tell(&QUERY, false, &REPLY_SERIAL)?;
+    assert_eq!(rt; trial.tag.counter, 0x00);
+    trial.tell(&QUERY, true, &SILENCE)?;
+    assert_eq!(rt; trial.tag.counter, 0x01);
+    trial.tell(&QUERY, false, &SILENCE)?;
+    assert_eq!(rt; trial.tag.counter, 0x02);
     Ok(())
 }
 
 // What a new tag replies to SELECT with an address, a mask and a word.
-fn select(rt: &impl Abort, parameters: &[u8], expected: &[u8]) -> Result<(), Fail> {
-    send(rt, &mut new_tag(), SELECT, parameters, expected)
+fn select<R: Abort + Drop>(rt: &R, parameters: &[u8], expected: &[u8]) -> Result<(), Fail> {
+    Trial::new(rt, new_tag()).send(SELECT, parameters, expected)
 }
 
 // Above 37 bytes count as 00: the comparison does not begin anew at 00.
@@ -109,57 +110,51 @@ fn masks_of_comparisons(rt: HostRuntime) -> Result<(), Fail> {
 
 #[test]
 fn marks_fall(rt: HostRuntime) -> Result<(), Fail> {
-    let mut tag = new_tag();
-    call(
-        &rt,
-        &mut tag,
-        WRITE,
-        &[0x08, 0xf0, 0x11, 0x22, 0x33, 0x44],
-        &REPLY_00,
-    )?;
-    assert_eq!(rt; tag.mark.number(), 2);
-    call_for(&rt, &mut tag, VERIFY, &[0x08], &[0x11, 0x22, 0x33, 0x44])?;
-    assert_eq!(rt; tag.mark.number(), 1);
-    call(&rt, &mut tag, VERIFY, &[0x08], &SILENCE)?;
-    assert_eq!(rt; tag.mark.number(), 0);
-    call(&rt, &mut tag, VERIFY, &[0x08], &SILENCE)?;
-    assert_eq!(rt; tag.mark.number(), 0);
+    let mut trial = Trial::new(&rt, new_tag());
+    trial.call(WRITE, &[0x08, 0xf0, 0x11, 0x22, 0x33, 0x44], &REPLY_00)?;
+    assert_eq!(rt; trial.tag.mark.number(), 2);
+    trial.call_for(VERIFY, &[0x08], &[0x11, 0x22, 0x33, 0x44])?;
+    assert_eq!(rt; trial.tag.mark.number(), 1);
+    trial.call(VERIFY, &[0x08], &SILENCE)?;
+    assert_eq!(rt; trial.tag.mark.number(), 0);
+    trial.call(VERIFY, &[0x08], &SILENCE)?;
+    assert_eq!(rt; trial.tag.mark.number(), 0);
     Ok(())
 }
 
 #[test]
 fn what_qlock_tells(rt: HostRuntime) -> Result<(), Fail> {
-    let mut tag = new_tag();
-    call(&rt, &mut tag, QLOCK, &[0x01], &REPLY_FE)?;
-    call(&rt, &mut tag, QLOCK, &[0x02], &REPLY_00)?;
-    tag.mark = WriteMark::Fresh;
-    call(&rt, &mut tag, QLOCK, &[0x02], &REPLY_01)?;
-    tag.mark = WriteMark::Fresh;
-    call(&rt, &mut tag, QLOCK, &[0x01], &REPLY_FF)?;
-    call(&rt, &mut tag, QLOCK, &[0x37], &REPLY_00)?;
-    call(&rt, &mut tag, QLOCK, &[0x38], &REPLY_FE)
+    let mut trial = Trial::new(&rt, new_tag());
+    trial.call(QLOCK, &[0x01], &REPLY_FE)?;
+    trial.call(QLOCK, &[0x02], &REPLY_00)?;
+    trial.refresh_mark();
+    trial.call(QLOCK, &[0x02], &REPLY_01)?;
+    trial.refresh_mark();
+    trial.call(QLOCK, &[0x01], &REPLY_FF)?;
+    trial.call(QLOCK, &[0x37], &REPLY_00)?;
+    trial.call(QLOCK, &[0x38], &REPLY_FE)
 }
 
 #[test]
 fn a_permission_serves_one_frame(rt: HostRuntime) -> Result<(), Fail> {
-    let mut tag = new_tag();
-    call(&rt, &mut tag, QLOCK, &[0x08], &REPLY_00)?;
-    assert_eq!(rt; tag.permission, Some(0x08));
-    tell(&rt, &mut tag, &SCROLL, false, &SILENCE)?;
-    assert_eq!(rt; tag.permission, None);
-    call(&rt, &mut tag, LOCK, &[0x08], &REPLY_00)?;
-    assert!(rt; !tag.is_locked(0x08));
+    let mut trial = Trial::new(&rt, new_tag());
+    trial.call(QLOCK, &[0x08], &REPLY_00)?;
+    assert_eq!(rt; trial.tag.permission, Some(0x08));
+    trial.tell(&SCROLL, false, &SILENCE)?;
+    assert_eq!(rt; trial.tag.permission, None);
+    trial.call(LOCK, &[0x08], &REPLY_00)?;
+    assert!(rt; !trial.tag.is_locked(0x08));
     Ok(())
 }
 
 #[test]
 fn a_permission_serves_one_address(rt: HostRuntime) -> Result<(), Fail> {
-    let mut tag = new_tag();
-    call(&rt, &mut tag, QLOCK, &[0x08], &REPLY_00)?;
-    call(&rt, &mut tag, LOCK, &[0x09], &REPLY_00)?;
-    assert!(rt; !tag.is_locked(0x08));
-    assert!(rt; !tag.is_locked(0x09));
-    assert_eq!(rt; tag.mark.number(), 0);
+    let mut trial = Trial::new(&rt, new_tag());
+    trial.call(QLOCK, &[0x08], &REPLY_00)?;
+    trial.call(LOCK, &[0x09], &REPLY_00)?;
+    assert!(rt; !trial.tag.is_locked(0x08));
+    assert!(rt; !trial.tag.is_locked(0x09));
+    assert_eq!(rt; trial.tag.mark.number(), 0);
     Ok(())
 }
 
@@ -167,21 +162,21 @@ fn a_permission_serves_one_address(rt: HostRuntime) -> Result<(), Fail> {
 #[test]
 fn frames_to_another_tag(rt: HostRuntime) -> Result<(), Fail> {
     let other = [0xef, 0x04, 0x02, 0x00, 0x00, 0x00, 0x00, 0x02];
-    let mut tag = singulated(0x03);
-    tag.mark = WriteMark::Fresh;
-    tag.permission = Some(0x08);
-    let memory = tag.memory;
-    call_by(
-        &rt,
-        &mut tag,
+    let tag = Tag {
+        mark: WriteMark::Fresh,
+        permission: Some(0x08),
+        ..singulated(0x03)
+    };
+    let mut trial = Trial::new(&rt, tag);
+    trial.call_by(
         other,
         WRITE,
         &[0x08, 0xf0, 0x11, 0x22, 0x33, 0x44],
         &SILENCE,
     )?;
-    check_parts(&rt, &tag, (State::Singulation, false, 0x03, 1, None));
-    assert!(rt; tag.memory == memory);
-    call_by(&rt, &mut tag, other, READ, &[0x08], &SILENCE)?;
-    check_parts(&rt, &tag, (State::Singulation, false, 0x03, 0, None));
+    trial.check_parts((State::Singulation, false, 0x03, 1, None));
+    assert!(rt; trial.tag.memory == tag.memory);
+    trial.call_by(other, READ, &[0x08], &SILENCE)?;
+    trial.check_parts((State::Singulation, false, 0x03, 0, None));
     Ok(())
 }

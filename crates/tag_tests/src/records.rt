@@ -6,11 +6,11 @@ use record::{SIZE, State, Tag, WriteMark};
 fn a_new_tag(rt: HostRuntime) {
     let mut memory = [0x55u8; SIZE];
     memory[0x37] = 0xaa;
-    let tag = Tag::new(memory);
-    assert!(rt; tag.memory == memory);
-    check_parts(&rt, &tag, (State::Ready, false, 0x00, 0, None));
-    for address in 0..SIZE {
-        assert_eq!(rt; tag.locks[address], address < 2);
+    let trial = Trial::new(&rt, Tag::new(memory));
+    assert!(rt; trial.tag.memory == memory);
+    trial.check_parts((State::Ready, false, 0x00, 0, None));
+    for (address, is_locked) in trial.tag.locks.iter().enumerate() {
+        assert_eq!(rt; *is_locked, address < 2);
     }
 }
 
@@ -33,16 +33,37 @@ fn parts_at_the_end(rt: HostRuntime) {
 #[test]
 fn one_part_makes_a_difference(rt: HostRuntime) {
     let tag = new_tag();
-    let mut others = [tag; 9];
-    others[0].memory[0x00] = 0xee;
-    others[1].memory[0x37] = 0xb8;
-    others[2].locks[0x00] = false;
-    others[3].locks[0x37] = true;
-    others[4].state = State::Singulation;
-    others[5].identified = true;
-    others[6].counter = 0x01;
-    others[7].mark = WriteMark::Fading;
-    others[8].permission = Some(0x00);
+    let [mut first_byte, mut last_byte, mut first_lock, mut last_lock] = [tag; 4];
+    first_byte.memory[0x00] = 0xee;
+    last_byte.memory[0x37] = 0xb8;
+    first_lock.locks[0x00] = false;
+    last_lock.locks[0x37] = true;
+    let others = [
+        first_byte,
+        last_byte,
+        first_lock,
+        last_lock,
+        Tag {
+            state: State::Singulation,
+            ..tag
+        },
+        Tag {
+            identified: true,
+            ..tag
+        },
+        Tag {
+            counter: 0x01,
+            ..tag
+        },
+        Tag {
+            mark: WriteMark::Fading,
+            ..tag
+        },
+        Tag {
+            permission: Some(0x00),
+            ..tag
+        },
+    ];
     for other in others {
         assert!(rt; other != tag);
         assert!(rt; tag != other);
