@@ -2,7 +2,7 @@
 use crate::setting::*;
 use bench::bench::Bench;
 use layers::pair::Pair;
-use record::{State, Tag};
+use record::Tag;
 use std::process::Abort;
 use std::test::Fail;
 
@@ -11,37 +11,42 @@ const SPLITS: [usize; 5] = [0, 1, 32, 63, 64];
 
 // A pair of benches over the two parts of a table.
 fn split(table: &mut [Tag; 64], places: usize) -> Result<Pair<Bench<'_>, Bench<'_>>, Fail> {
-    match table.split_at_mut_checked(places) {
-        Some((left, right)) => pair_of(bench_over(left)?, bench_over(right)?),
-        None => Err(Fail::new("a split behind the end")),
-    }
+    let (left, right) = table
+        .split_at_mut_checked(places)
+        .ok_or("a split behind the end")?;
+    pair_of(bench_over(left)?, bench_over(right)?)
 }
 
 // Plays to 64 tags in SINGULATION, as one table and as a pair.
 fn both_play(rt: &impl Abort, acts: &[Act], places: usize) -> Result<(), Fail> {
-    let mut joined = crowd(State::Singulation);
+    let mut joined = crowd();
     let mut table = joined;
-    bench_plays(rt, &mut joined, acts)?;
-    plays(rt, &mut split(&mut table, places)?, acts)?;
+    plays(rt, bench_over(&mut joined)?, acts)?;
+    plays(rt, split(&mut table, places)?, acts)?;
     assert!(rt; table == joined);
     Ok(())
 }
 
-// The lone reply comes from either side, and the SCROLL has all tags back.
+// Plays about the tag at each of some places. The lone reply comes from either side, and the SCROLL has all tags back.
+fn turns(rt: &impl Abort, places: usize) -> Result<(), Fail> {
+    for place in [0, 1, 31, 32, 62, 63u8] {
+        let acts = [
+            (QUERY, ONES ^ (1 << place), lone(place)),
+            (QUERY, 0, lone(place)),
+            (QUERY, 1 << place, SILENCE),
+            (SCROLL, ONES, lone(place)),
+            (SCROLL, 0, lone(place)),
+            (SCROLL, 1, CLASH),
+        ];
+        both_play(rt, &acts, places)?;
+    }
+    Ok(())
+}
+
 #[test]
 fn queries_to_a_pair(rt: HostRuntime) -> Result<(), Fail> {
     for places in SPLITS {
-        for place in [0, 1, 31, 32, 62, 63u8] {
-            let acts = [
-                (Ask::Query, ONES ^ (1 << place), Heard::Serial(place)),
-                (Ask::Query, 0, Heard::Serial(place)),
-                (Ask::Query, 1 << place, Heard::Silence),
-                (Ask::Scroll, ONES, Heard::Serial(place)),
-                (Ask::Scroll, 0, Heard::Serial(place)),
-                (Ask::Scroll, 1, Heard::Clash),
-            ];
-            both_play(&rt, &acts, places)?;
-        }
+        turns(&rt, places)?;
     }
     Ok(())
 }

@@ -6,18 +6,16 @@ use std::process::Abort;
 use std::test::Fail;
 
 // Whether each tag has counter 01 where the row has a 1 for it, and 00 where it has a 0.
-fn counters_follow(rt: &impl Abort, table: &[Tag], row: u64) {
-    let mut coins = row;
-    for tag in table {
-        assert_eq!(rt; u64::from(tag.counter), coins % 2);
-        coins /= 2;
+fn counters_follow(rt: &impl Abort, table: &[Tag; 64], row: u64) {
+    for (place, tag) in table.iter().enumerate() {
+        assert_eq!(rt; u64::from(tag.counter), (row >> place) % 2);
     }
 }
 
 // Plays a QUERY to 64 tags in SINGULATION.
 fn queried(rt: &impl Abort, row: u64, heard: Heard) -> Result<(), Fail> {
-    let mut table = crowd(State::Singulation);
-    bench_plays(rt, &mut table, &[(Ask::Query, row, heard)])?;
+    let mut table = crowd();
+    plays(rt, bench_over(&mut table)?, &[(QUERY, row, heard)])?;
     counters_follow(rt, &table, row);
     Ok(())
 }
@@ -25,7 +23,7 @@ fn queried(rt: &impl Abort, row: u64, heard: Heard) -> Result<(), Fail> {
 #[test]
 fn one_bit_holds_one_tag_back(rt: HostRuntime) -> Result<(), Fail> {
     for place in 0..64u8 {
-        queried(&rt, 1 << place, Heard::Clash)?;
+        queried(&rt, 1 << place, CLASH)?;
     }
     Ok(())
 }
@@ -34,30 +32,27 @@ fn one_bit_holds_one_tag_back(rt: HostRuntime) -> Result<(), Fail> {
 #[test]
 fn one_zero_leaves_one_tag(rt: HostRuntime) -> Result<(), Fail> {
     for place in 0..64u8 {
-        queried(&rt, ONES ^ (1 << place), Heard::Serial(place))?;
+        queried(&rt, ONES ^ (1 << place), lone(place))?;
     }
     Ok(())
 }
 
 #[test]
 fn all_ones_leave_nobody(rt: HostRuntime) -> Result<(), Fail> {
-    queried(&rt, ONES, Heard::Silence)?;
-    queried(&rt, 0, Heard::Clash)
+    queried(&rt, ONES, SILENCE)?;
+    queried(&rt, 0, CLASH)
 }
 
 #[test]
 fn bits_behind_the_last_place_go_nowhere(rt: HostRuntime) -> Result<(), Fail> {
     let mut table = [tag_at(0, State::Singulation), tag_at(1, State::Singulation)];
     let acts = [
-        (Ask::Query, ONES ^ 3, Heard::Clash),
-        (Ask::Query, ONES ^ 2, Heard::Serial(1)),
-        (Ask::Query, 0, Heard::Serial(1)),
-        (Ask::Query, 2, Heard::Silence),
+        (QUERY, ONES ^ 3, CLASH),
+        (QUERY, ONES ^ 2, lone(1)),
+        (QUERY, 0, lone(1)),
+        (QUERY, 2, SILENCE),
     ];
-    bench_plays(&rt, &mut table, &acts)?;
-    let acts = [
-        (Ask::Query, ONES ^ 1, Heard::Serial(0)),
-        (Ask::Query, 1, Heard::Silence),
-    ];
-    plays(&rt, &mut Single::new(tag_at(0, State::Singulation)), &acts)
+    plays(&rt, bench_over(&mut table)?, &acts)?;
+    let acts = [(QUERY, ONES ^ 1, lone(0)), (QUERY, 1, SILENCE)];
+    plays(&rt, Single::new(tag_at(0, State::Singulation)), &acts)
 }
