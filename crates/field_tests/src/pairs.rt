@@ -1,6 +1,7 @@
 // Pairs against the bench of the joined table.
 use crate::setting::*;
 use bench::bench::Bench;
+use field::field::Field;
 use layers::pair::Pair;
 use record::Tag;
 use std::process::Abort;
@@ -8,6 +9,11 @@ use std::test::Fail;
 
 // How many of 64 tags stand at the left.
 const SPLITS: [usize; 5] = [0, 1, 32, 63, 64];
+
+// Two fields as one. It is generic, since `map_err` gets no proof today at a pair of benches.
+fn pair_of<L: Field + Drop, R: Field + Drop>(left: L, right: R) -> Result<Pair<L, R>, Fail> {
+    Pair::new(left, right).map_err(|_| Fail::new("too many places"))
+}
 
 // A pair of benches over the two parts of a table.
 fn split(table: &mut [Tag; 64], places: usize) -> Result<Pair<Bench<'_>, Bench<'_>>, Fail> {

@@ -1,7 +1,7 @@
 // Which tag takes which bit of a row.
 use crate::setting::*;
 use bench::single::Single;
-use record::{State, Tag};
+use record::Tag;
 use std::process::Abort;
 use std::test::Fail;
 
@@ -45,7 +45,7 @@ fn all_ones_leave_nobody(rt: HostRuntime) -> Result<(), Fail> {
 
 #[test]
 fn bits_behind_the_last_place_go_nowhere(rt: HostRuntime) -> Result<(), Fail> {
-    let mut table = [tag_at(0, State::Singulation), tag_at(1, State::Singulation)];
+    let mut table = [tag_at(0), tag_at(1)];
     let acts = [
         (QUERY, ONES ^ 3, CLASH),
         (QUERY, ONES ^ 2, lone(1)),
@@ -54,5 +54,5 @@ fn bits_behind_the_last_place_go_nowhere(rt: HostRuntime) -> Result<(), Fail> {
     ];
     plays(&rt, bench_over(&mut table)?, &acts)?;
     let acts = [(QUERY, ONES ^ 1, lone(0)), (QUERY, 1, SILENCE)];
-    plays(&rt, Single::new(tag_at(0, State::Singulation)), &acts)
+    plays(&rt, Single::new(tag_at(0)), &acts)
 }

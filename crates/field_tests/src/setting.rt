@@ -3,7 +3,6 @@ use bench::bench::Bench;
 use crc::check_value;
 use field::field::Field;
 use field::hearing::Hearing;
-use layers::pair::Pair;
 use record::{SIZE, State, Tag};
 use std::array;
 use std::process::Abort;
@@ -34,7 +33,7 @@ pub(crate) const CLASH: Heard = Heard {
     front: [0; 10],
 };
 
-// The serial number of the tag at a place.
+// A lone reply: the serial number of the tag at a place.
 pub(crate) fn lone(place: u8) -> Heard {
     let serial = serial(place);
     let mut front = [0; 10];
@@ -64,23 +63,22 @@ fn serial(place: u8) -> [u8; 8] {
     [0xef, 0x04, 0x02, 0x00, 0x00, 0x00, 0x00, place]
 }
 
-// That tag, new but for its state, with 80 more than its place in each byte behind the serial number.
-pub(crate) fn tag_at(place: u8, state: State) -> Tag {
+// That tag, new but in SINGULATION, with 80 more than its place in each byte behind the serial number.
+pub(crate) fn tag_at(place: u8) -> Tag {
     let mut memory = [place ^ 0x80; SIZE];
     memory[..8].copy_from_slice(&serial(place));
     Tag {
-        state,
+        state: State::Singulation,
         ..Tag::new(memory)
     }
 }
 
-// The tags of 64 places, in SINGULATION.
+// The tags of 64 places.
 pub(crate) fn crowd() -> [Tag; 64] {
-    array::from_fn(|place| tag_at(place as u8, State::Singulation))
+    array::from_fn(|place| tag_at(place as u8))
 }
 
-// Sends frames with one buffer, and checks after each what is heard and the whole buffer, whose bytes from 258 on are
-// A5.
+// Sends frames with one buffer of 300 bytes A5, and checks after each what is heard and the whole buffer.
 pub(crate) fn plays<F: Field + Drop>(
     rt: &impl Abort,
     mut field: F,
@@ -97,14 +95,7 @@ pub(crate) fn plays<F: Field + Drop>(
 // A bench over a table that is not too long.
 pub(crate) fn bench_over(table: &mut [Tag]) -> Result<Bench<'_>, Fail> {
     let mut bench = Bench::new();
+    // Not by `map_err`: a closure that is handed a `&mut` slice back gets no proof today.
     bench.set_table(table).ok().ok_or("too long a table")?;
     Ok(bench)
-}
-
-// Two fields as one, where they have at most 64 places in all.
-pub(crate) fn pair_of<L: Field + Drop, R: Field + Drop>(
-    left: L,
-    right: R,
-) -> Result<Pair<L, R>, Fail> {
-    Pair::new(left, right).map_err(|_| Fail::new("too many places"))
 }

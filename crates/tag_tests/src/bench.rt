@@ -87,7 +87,7 @@ impl<'a, R: Abort> Trial<'a, R> {
         self.tag.mark = WriteMark::Fresh;
     }
 
-    // Has the next frame lock an address, as a read does.
+    // Permits the next frame to lock an address, as a read does.
     pub(crate) fn permit(&mut self, address: u8) {
         self.tag.permission = Some(address);
     }
@@ -161,7 +161,7 @@ impl<'a, R: Abort> Trial<'a, R> {
 }
 
 // The bytes that were written at the front of a buffer with room for the longest reply.
-#[derive(Clone, Copy)]
+#[derive(Drop)]
 struct Filled {
     buffer: [u8; 258],
     length: usize,

@@ -50,7 +50,7 @@ fn the_coin(rt: HostRuntime) -> Result<(), Fail> {
 }
 
 // What a new tag replies to SELECT with an address, a mask and a word.
-fn select<R: Abort + Drop>(rt: &R, parameters: &[u8], expected: &[u8]) -> Result<(), Fail> {
+fn select(rt: &(impl Abort + Drop), parameters: &[u8], expected: &[u8]) -> Result<(), Fail> {
     Trial::new(rt, new_tag()).send(SELECT, parameters, expected)
 }
 
