@@ -67,10 +67,11 @@ pub(crate) fn new_tag() -> Tag {
     Tag::new(memory)
 }
 
-// State, ID flag, counter, mark and permission.
+// State, ID flag, counter, mark and permission: a tuple, so that what is expected takes one line.
 type Parts = (State, bool, u8, u8, Option<u8>);
 
-// A tag under test, and the handle by which a failed check ends the test.
+// A tag under test, and the handle by which a failed check ends the test. What a test changes midway has a method here,
+// since an assignment such as `trial.tag.mark = ..` gets no proof in a test today.
 #[derive(Drop)]
 pub(crate) struct Trial<'a, R> {
     rt: &'a R,
