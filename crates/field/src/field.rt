@@ -54,7 +54,8 @@ pub trait Field {
         ensures places { InPlace (λ _. gapped microseconds) (tags self.old) (tags self.new) }
         ensures kind { waits self.old microseconds self.new };
 
-    // Steps every tag on what opening a frame gave, each with its coin of the row, and tells what comes of it.
+    // Steps every tag on what opening a frame gave, each with its coin of the row, and tells what comes of it. Frame and
+    // row are two parameters, since fields made of fields hand on the one and shift the other.
     fn listen(&mut self, opened: &Result<Frame<'_>, Refusal>, row: u64) -> Sound
         ensures tags { tags self.new ≡ stepped_all (seen opened.now) row (tags self.old) }
         ensures sound { Tells result (tags self.new) (on_air (seen opened.now) row (tags self.old)) }

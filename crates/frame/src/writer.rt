@@ -3,7 +3,8 @@ ghost use Rattle.std.specs.Prelude.{◌≡◌, ◌≤◌, length};
 
 use crc::Register;
 
-// The buffer, how many of its bytes are filled, and the register over those that were put.
+// The buffer, how many of its bytes are filled, and the register over those that were put. The buffer is the caller's,
+// since this is for use without a heap, and so the bytes that are filled are counted beside it.
 #[derive(Drop)]
 pub struct Writer<'a> {
     pub(crate) buffer: &'a mut [u8],

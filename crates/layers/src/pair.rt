@@ -11,7 +11,8 @@ use frame::opening::Frame;
 use protocol::refusal::Refusal;
 use record::Tag;
 
-// The places of the left field come first.
+// The places of the left field come first. A pair above 64 places, which is never made, means its left alone: if the
+// type ruled it out, whoever names the type would have to show that its sides are fields.
 #[derive(Drop)]
 pub struct Pair<L, R> {
     left: L,

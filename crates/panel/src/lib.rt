@@ -33,6 +33,7 @@ pub fn nolbashi_open(frame: &[u8], shown: &mut [u8]) -> u8
     ensures answer { result ≡ answering (opening frame.now) (length shown.old) }
     ensures shown { shown.new ≡ leaving (opening frame.now) shown.old }
 {
+    // A number, since C has no Result.
     show(frame, shown).err().map_or(0, u8::from)
 }
 

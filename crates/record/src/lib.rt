@@ -43,7 +43,8 @@ pub enum WriteMark {
 #[derive(Clone, Copy)]
 pub struct Tag {
     pub memory: Memory,
-    // For each byte, whether it can no more be written.
+    // For each byte, whether it can no more be written. The locks lie beside the bytes and not with them, so that the
+    // bytes can be lent in one piece.
     pub locks: [bool; SIZE],
     pub state: State,
     // The ID flag.
@@ -132,7 +133,8 @@ impl Tag {
     }
 }
 
-// Two tags are alike if their records are equal in every part.
+// Two tags are alike if their records are equal in every part. A derived test would have no place for its clauses, and
+// nothing would say that equal tags are identical.
 impl PartialEq for Tag {
     ghost eq = { alike };
 

@@ -149,7 +149,7 @@ fn shift(tag: &mut Tag)
     tag.identified = true;
 }
 
-// What QLOCK tells of a byte.
+// What QLOCK tells of a byte, as it goes on the air.
 fn lock_status(is_locked: bool, write_ok: bool) -> u8
     ensures { result ≡ lock_status is_locked write_ok }
 {
