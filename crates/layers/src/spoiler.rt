@@ -18,6 +18,7 @@ pub struct Spoiler<F> {
     period: u16,
     // How many lone replies came since the last one that was spoiled.
     heard: u16,
+    ghost counting: { heard < period },
 }
 
 impl<F> Spoiler<F> {
@@ -51,9 +52,11 @@ impl<F> Spoiler<F> {
 
 // The count after one more lone reply: it begins anew with one that is to be spoiled.
 fn counted(heard: u16, period: u16) -> u16
-    ensures { (n : ℕ) → 0 < period → heard ≡ n % period → result ≡ (n + 1) % period }
+    requires { heard < period }
+    ensures inside { result < period }
+    ensures next { (n : ℕ) → 0 < period → heard ≡ n % period → result ≡ (n + 1) % period }
 {
-    let next = heard.saturating_add(1);
+    let next = heard + 1;
     if next < period { next } else { 0 }
 }
 
