@@ -41,6 +41,16 @@ impl<F> Spoiler<F> {
         })
     }
 
+    // The count after one more lone reply: it begins anew with one that is to be spoiled.
+    fn counted(&self) -> u16
+        ensures inside { result < self.now.period }
+        ensures next { (n : ℕ) → self.now.heard ≡ n % self.now.period → result ≡ (n + 1) % self.now.period }
+    {
+        let period = self.period;
+        let next = self.heard + 1;
+        if next < period { next } else { 0 }
+    }
+
     // Gives the field back.
     pub fn into_field(self) -> F
         ensures { result ≡ self.field }
@@ -48,16 +58,6 @@ impl<F> Spoiler<F> {
         let Spoiler { field, .. } = self;
         field
     }
-}
-
-// The count after one more lone reply: it begins anew with one that is to be spoiled.
-fn counted(heard: u16, period: u16) -> u16
-    requires { heard < period }
-    ensures inside { result < period }
-    ensures next { (n : ℕ) → 0 < period → heard ≡ n % period → result ≡ (n + 1) % period }
-{
-    let next = heard + 1;
-    if next < period { next } else { 0 }
 }
 
 impl<F: Field> Field for Spoiler<F> {
@@ -88,7 +88,7 @@ impl<F: Field> Field for Spoiler<F> {
         let Sound::Lone { .. } = sound else {
             return sound;
         };
-        self.heard = counted(self.heard, self.period);
+        self.heard = self.counted();
         if self.heard == 0 { Sound::Clash } else { sound }
     }
 }

@@ -7,15 +7,15 @@ use Rattle.protocol.specs.declared.command.Command.TheVariants.{Select, Unselect
 use Rattle.protocol.specs.declared.command.Entry.{Entry}
 use Rattle.protocol.specs.declared.refusal.Refusal.TheVariants.{Code}
 use Rattle.protocol.specs.Entries.{Entered}
-use Rattle.protocol.specs.Commands.{code_of, length_of, commands, named, entry_of, first_entry}
+use Rattle.protocol.specs.Commands.{code_of, length_of, commands, named, entry_of, first_named, first_entry}
 
 -- A table that says of each command what is so is looked through as the commands are.
-pub told : (code : ℕ) (cs : List Command) → first_entry code (map entry_of cs) ≡ option_map entry_of (find (λ c. code_of c == code) cs)
+pub told : (code : ℕ) (cs : List Command) → first_entry code (map entry_of cs) ≡ option_map entry_of (first_named code cs)
 told code [] = refl
 told code (c ∷ cs) = either (code_of c == code) (told code cs)
   where
-    either : (b : Bool) → first_entry code (map entry_of cs) ≡ option_map entry_of (find (λ c. code_of c == code) cs)
-        → cond b (Some (entry_of c)) (first_entry code (map entry_of cs)) ≡ option_map entry_of (cond b (Some c) (find (λ c. code_of c == code) cs))
+    either : (b : Bool) → first_entry code (map entry_of cs) ≡ option_map entry_of (first_named code cs)
+        → cond b (Some (entry_of c)) (first_entry code (map entry_of cs)) ≡ option_map entry_of (cond b (Some c) (first_named code cs))
     either true e = refl
     either false e = e
 
@@ -43,12 +43,12 @@ pub entered : (code : ℕ) (o : Option Entry) → o ≡ first_entry code (map en
 entered code None p = (refl, found_none code p)
 entered code (Some e) p = found_some code e p
 
-first_code : (code : ℕ) (c d : Command) (ds : List Command) → (find (λ c. code_of c == code) ds ≡ Some c → code_of c ≡ code) → (b : Bool) → eqb (code_of d) code ≡ b
-    → cond b (Some d) (find (λ c. code_of c == code) ds) ≡ Some c → code_of c ≡ code
+first_code : (code : ℕ) (c d : Command) (ds : List Command) → (first_named code ds ≡ Some c → code_of c ≡ code) → (b : Bool) → eqb (code_of d) code ≡ b
+    → cond b (Some d) (first_named code ds) ≡ Some c → code_of c ≡ code
 first_code code c d ds later true t q = let same : d ≡ c = cc in ap code_of (sym same) ∙ eqb-true (code_of d) code t
 first_code code c d ds later false t q = later q
 
-first_named_code : (code : ℕ) (c : Command) (cs : List Command) → find (λ c. code_of c == code) cs ≡ Some c → code_of c ≡ code
+first_named_code : (code : ℕ) (c : Command) (cs : List Command) → first_named code cs ≡ Some c → code_of c ≡ code
 first_named_code code c [] e = absurd (let z : ◌≡◌ {A = ℕ} 0 1 = cc in omega arith)
 first_named_code code c (d ∷ ds) e = first_code code c d ds (first_named_code code c ds) (eqb (code_of d) code) refl e
 

@@ -10,9 +10,13 @@ selects mask i = mask / 2 ^ (7 - i) % 2 == 1
 abbrev pub agrees_at : List ℕ → ℕ → ℕ → List ℕ → ℕ → Bool
 agrees_at memory a mask word i = cond (selects mask i) (slice_index memory (a + i) == slice_index word i) true
 
+-- Whether the first n places agree.
+abbrev pub agree : List ℕ → ℕ → ℕ → List ℕ → ℕ → Bool
+agree memory a mask word n = list_all (agrees_at memory a mask word) (range_with_len 0 n)
+
 -- Masked comparison looks at eight bytes from an address on.
 abbrev pub matches : List ℕ → ℕ → ℕ → List ℕ → Bool
-matches memory a mask word = list_all (agrees_at memory a mask word) (range_with_len 0 8)
+matches memory a mask word = agree memory a mask word 8
 
 -- The memory once the byte at a place is stored, if it is selected.
 abbrev pub stored_at : ℕ → ℕ → List ℕ → List ℕ → ℕ → List ℕ
