@@ -1,0 +1,3 @@
+pub mod Capitals
+pub mod Made
+pub mod Shown

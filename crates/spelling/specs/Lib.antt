@@ -1,0 +1,4 @@
+pub mod Hexadecimal
+pub mod Misspellings
+pub mod Samples
+pub mod Words

@@ -1,0 +1,25 @@
+-- Why a text is not read, and what reading it gives. Assumes nothing.
+use Rattle.std.specs.Prelude.{◌≡◌, ℕ, List, codes, Result, MatchResult}
+use Rattle.hex.specs.declared.error.FromHexError.{FromHexError}
+use Rattle.hex.specs.declared.error.FromHexError.TheVariants.{InvalidHexCharacter, OddLength, InvalidStringLength, OutOfMemory}
+use Rattle.spelling.specs.declared.misspelt.Misspelt.{Misspelt}
+use Rattle.spelling.specs.declared.misspelt.Misspelt.TheVariants.{Bytes, Bit, Mark, Missing, Surplus, Memory}
+
+abbrev pub misspelt_text : Misspelt → List ℕ
+misspelt_text Bytes = codes "not the bytes that are wanted, in hexadecimal"
+misspelt_text Bit = codes "neither 0 nor 1"
+misspelt_text Mark = codes "no write mark"
+misspelt_text Missing = codes "a word is missing"
+misspelt_text Surplus = codes "a word too many"
+misspelt_text Memory = codes "out of memory"
+
+-- An error of the crate `hex`, in this crate's words.
+abbrev pub of_hex : FromHexError → Misspelt
+of_hex (InvalidHexCharacter c i) = Bytes
+of_hex OddLength = Bytes
+of_hex InvalidStringLength = Bytes
+of_hex OutOfMemory = Memory
+
+-- What reading a text gives: a value that it spells, or a certain error where it spells none.
+abbrev pub Reads : {A : Type 0} → (List ℕ → A → Type 0) → Misspelt → List ℕ → Result A Misspelt → Type 0
+Reads Spells error text r = MatchResult r (Spells text) (λ e. (e ≡ error) × ((value : _) → Spells text value → ⊥))

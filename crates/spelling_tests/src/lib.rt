@@ -1,0 +1,5 @@
+// Tests of spelling, on values worked out by hand.
+#![tactic(auto)]
+
+#[cfg(test)]
+mod reading;
