@@ -1,4 +1,5 @@
 pub mod Hexadecimal
 pub mod Misspellings
 pub mod Samples
+pub mod Sent
 pub mod Words

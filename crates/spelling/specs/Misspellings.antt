@@ -1,9 +1,10 @@
--- Why a text is not read, and what reading it gives. Assumes nothing.
+-- Why a text is not read or a frame not made, and what reading gives. Assumes nothing.
 use Rattle.std.specs.Prelude.{◌≡◌, ℕ, List, codes, Result, MatchResult}
 use Rattle.hex.specs.declared.error.FromHexError.{FromHexError}
 use Rattle.hex.specs.declared.error.FromHexError.TheVariants.{InvalidHexCharacter, OddLength, InvalidStringLength, OutOfMemory}
+use Rattle.protocol.specs.Names.{refusal_name}
 use Rattle.spelling.specs.declared.misspelt.Misspelt.{Misspelt}
-use Rattle.spelling.specs.declared.misspelt.Misspelt.TheVariants.{Bytes, Bit, Mark, Missing, Surplus, Memory}
+use Rattle.spelling.specs.declared.misspelt.Misspelt.TheVariants.{Bytes, Bit, Mark, Missing, Surplus, Refused, Memory}
 
 abbrev pub misspelt_text : Misspelt → List ℕ
 misspelt_text Bytes = codes "not the bytes that are wanted, in hexadecimal"
@@ -11,6 +12,7 @@ misspelt_text Bit = codes "neither 0 nor 1"
 misspelt_text Mark = codes "no write mark"
 misspelt_text Missing = codes "a word is missing"
 misspelt_text Surplus = codes "a word too many"
+misspelt_text (Refused refusal) = refusal_name refusal
 misspelt_text Memory = codes "out of memory"
 
 -- An error of the crate `hex`, in this crate's words.

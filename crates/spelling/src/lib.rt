@@ -1,7 +1,8 @@
-// How questions and answers are spelt: bytes in hexadecimal, the words of a record, and a sample tag's parameters.
+// How questions and answers are spelt: bytes in hexadecimal, the words of a record, frames and replies, and a sample tag.
 #![tactic(auto)]
 
 pub mod hexadecimal;
 pub mod misspelt;
 pub mod sample;
+pub mod sent;
 pub mod words;

@@ -1,9 +1,10 @@
-// Why a text is not read.
+// Why a text is not read, or a frame not made.
 ghost use Rattle.std.specs.Prelude.{◌≡◌, Some};
 ghost use Rattle.spelling.specs.Misspellings.{misspelt_text, of_hex};
-ghost use Rattle.spelling.specs.declared.misspelt.Misspelt.TheVariants.{Memory};
+ghost use Rattle.spelling.specs.declared.misspelt.Misspelt.TheVariants.{Memory, Refused};
 
 use hex::FromHexError;
+use protocol::refusal::Refusal;
 use std::alloc::AllocError;
 use std::error::Error;
 use std::fmt;
@@ -20,7 +21,9 @@ pub enum Misspelt {
     Missing,
     // A word where none is wanted.
     Surplus,
-    // There was no memory for what was read.
+    // A call that makes no frame.
+    Refused(Refusal),
+    // There was no memory for what was to come.
     Memory,
 }
 
@@ -28,14 +31,15 @@ impl fmt::Display for Misspelt {
     ghost output = { λ misspelt. Some (misspelt_text misspelt) };
 
     fn fmt<W: fmt::Write>(&self, f: &mut fmt::Formatter<W>) -> fmt::Result {
-        f.pad(match self {
-            Misspelt::Bytes => "not the bytes that are wanted, in hexadecimal",
-            Misspelt::Bit => "neither 0 nor 1",
-            Misspelt::Mark => "no write mark",
-            Misspelt::Missing => "a word is missing",
-            Misspelt::Surplus => "a word too many",
-            Misspelt::Memory => "out of memory",
-        })
+        match self {
+            Misspelt::Bytes => f.pad("not the bytes that are wanted, in hexadecimal"),
+            Misspelt::Bit => f.pad("neither 0 nor 1"),
+            Misspelt::Mark => f.pad("no write mark"),
+            Misspelt::Missing => f.pad("a word is missing"),
+            Misspelt::Surplus => f.pad("a word too many"),
+            Misspelt::Refused(refusal) => refusal.fmt(f),
+            Misspelt::Memory => f.pad("out of memory"),
+        }
     }
 }
 
@@ -49,5 +53,21 @@ impl From<FromHexError> for Misspelt {
             FromHexError::OutOfMemory => Misspelt::Memory,
             _ => Misspelt::Bytes,
         }
+    }
+}
+
+impl From<Refusal> for Misspelt {
+    ghost from_gives = { λ refusal misspelt. misspelt ≡ Refused refusal };
+
+    fn from(refusal: Refusal) -> Misspelt {
+        Misspelt::Refused(refusal)
+    }
+}
+
+impl From<AllocError> for Misspelt {
+    ghost from_gives = { λ _ misspelt. misspelt ≡ Memory };
+
+    fn from(_error: AllocError) -> Misspelt {
+        Misspelt::Memory
     }
 }

@@ -3,3 +3,5 @@
 
 #[cfg(test)]
 mod reading;
+#[cfg(test)]
+mod sending;

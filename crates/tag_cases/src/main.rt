@@ -3,49 +3,43 @@
 // The answers of another implementation are stored beside it, for comparison.
 #![tactic(auto)]
 
-mod reading;
 mod showing;
 
-use crate::reading::{
-    read_bit, read_byte, read_bytes, read_locks, read_mark, read_memory, read_permission,
-    read_state,
-};
 use crate::showing::Answer;
-use anyhow::anyhow;
+use anyhow::{Context, bail};
 use frame::opening::open;
-use record::{SIZE, Tag};
+use record::{SIZE, State, Tag};
 use reply::Reply;
+use spelling::hexadecimal::{read_array, read_byte, read_bytes};
+use spelling::sent::replied;
+use spelling::words::{no_word, read_bit, read_locks, read_mark, read_permission, word};
 use std::alloc::Global;
 use std::io::{BufRead, BufReader};
 use tag::step;
 
-// The longest reply: 256 bytes of memory and their check value.
-const LONGEST: usize = 258;
-
 // Does to the tag what a question says, and tells its reply if it gives one.
 fn put(heap: Global, tag: &mut Tag, question: &str) -> anyhow::Result<Option<Reply>> {
-    let Some((verb, rest)) = question.split_once(' ') else {
-        return Err(anyhow!("no question"));
-    };
+    let (verb, rest) = question.split_once(' ').context("no question")?;
     match verb {
-        "new" => *tag = Tag::new(read_memory(heap, rest)?),
-        "locks" => tag.locks = read_locks(heap, rest)?,
+        "new" => *tag = Tag::new(read_array::<SIZE>(rest)?),
+        "locks" => tag.locks = read_locks(rest)?,
         "set" => set(tag, rest)?,
         "step" => return send(heap, tag, rest),
         "gap" => tag.pass(rest.parse::<u32>()?),
-        _ => return Err(anyhow!("no question")),
+        _ => bail!("no question"),
     }
     Ok(None)
 }
 
 fn set(tag: &mut Tag, rest: &str) -> anyhow::Result<()> {
     let mut words = rest.split_whitespace();
-    tag.state = read_state(word(words.next())?)?;
+    tag.state = word(words.next())?.parse::<State>()?;
     tag.identified = read_bit(word(words.next())?)?;
     tag.counter = read_byte(word(words.next())?)?;
     tag.mark = read_mark(word(words.next())?)?;
     tag.permission = read_permission(word(words.next())?)?;
-    no_word(words.next())
+    no_word(words.next())?;
+    Ok(())
 }
 
 fn send(heap: Global, tag: &mut Tag, rest: &str) -> anyhow::Result<Option<Reply>> {
@@ -56,37 +50,14 @@ fn send(heap: Global, tag: &mut Tag, rest: &str) -> anyhow::Result<Option<Reply>
     Ok(step(tag, &open(frame.as_slice()), coin))
 }
 
-fn word(next: Option<&str>) -> anyhow::Result<&str> {
-    match next {
-        Some(text) => Ok(text),
-        None => Err(anyhow!("a word is missing")),
-    }
-}
-
-fn no_word(next: Option<&str>) -> anyhow::Result<()> {
-    match next {
-        Some(_) => Err(anyhow!("a word too many")),
-        None => Ok(()),
-    }
-}
-
 fn answer(rt: &HostRuntime, tag: &mut Tag, question: &str) -> anyhow::Result<()> {
     let before = *tag;
-    let mut buffer = [0u8; LONGEST];
-    let length = match put(rt.alloc(), tag, question)? {
-        Some(reply) => reply.write(tag, &mut buffer),
-        None => Ok(0),
-    };
-    let Ok(length) = length else {
-        return Err(anyhow!("a reply could not be written"));
-    };
-    let Some(reply) = buffer.get(0..length) else {
-        return Err(anyhow!("a reply is too long"));
-    };
+    let reply = put(rt.alloc(), tag, question)?;
+    let bytes = replied(rt.alloc(), tag, reply)?;
     let answer = Answer {
         before: &before,
         after: tag,
-        reply,
+        reply: bytes.as_slice(),
     };
     println!(rt; "{answer}")?;
     Ok(())

@@ -1,5 +1,6 @@
 // Answers, as they are written.
 use record::Tag;
+use spelling::hexadecimal::Hex;
 use std::fmt;
 
 // A tag's record, where it is no longer what it was, and its reply.
@@ -22,45 +23,35 @@ impl fmt::Display for Answer<'_> {
             None => write!(f, "- ")?,
         }
         if self.after.memory == self.before.memory {
-            write!(f, "=")?;
+            write!(f, "= ")?;
         } else {
-            write_bytes(f, &self.after.memory)?;
+            write!(f, "{} ", Hex::new(&self.after.memory))?;
         }
-        write!(f, " ")?;
         if self.after.locks == self.before.locks {
-            write!(f, "=")?;
+            write!(f, "= ")?;
         } else {
-            write_bits(f, &self.after.locks)?;
+            let bits = &self.after.locks;
+            write!(f, "{} ", Bits { bits })?;
         }
-        write!(f, " ")?;
-        write_bytes(f, self.reply)
+        write!(f, "{}", Hex::new(self.reply))
     }
-}
-
-// Bytes in hexadecimal, and a dash for none.
-fn write_bytes<W: fmt::Write>(f: &mut fmt::Formatter<W>, bytes: &[u8]) -> fmt::Result {
-    if bytes.is_empty() {
-        return write!(f, "-");
-    }
-    for byte in bytes {
-        write!(f, "{byte:02X}")?;
-    }
-    Ok(())
 }
 
 // Bits in hexadecimal, eight to a byte, the highest for the first.
-fn write_bits<W: fmt::Write>(f: &mut fmt::Formatter<W>, bits: &[bool]) -> fmt::Result {
-    for eight in bits.chunks(8) {
-        let byte = packed(eight);
-        write!(f, "{byte:02X}")?;
+#[derive(Drop)]
+struct Bits<'a> {
+    bits: &'a [bool],
+}
+
+impl fmt::Display for Bits<'_> {
+    fn fmt<W: fmt::Write>(&self, f: &mut fmt::Formatter<W>) -> fmt::Result {
+        for eight in self.bits.chunks(8) {
+            write!(f, "{:02X}", packed(eight))?;
+        }
+        Ok(())
     }
-    Ok(())
 }
 
 fn packed(bits: &[bool]) -> u8 {
-    let mut byte = 0u8;
-    for bit in bits {
-        byte = byte << 1 | u8::from(*bit);
-    }
-    byte
+    bits.iter().fold(0, |byte, bit| byte << 1 | u8::from(*bit))
 }

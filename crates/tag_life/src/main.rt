@@ -1,22 +1,13 @@
 // Plays the life of one tag: prints what it is sent, what it replies, and its record after that.
 #![tactic(auto)]
 
-use anyhow::anyhow;
-use frame::making::make;
-use protocol::command::{COMMANDS, Command};
+use protocol::command::Command;
 use record::{SIZE, Tag};
 use reply::Reply;
-use std::alloc::{AllocError, Global};
-use std::fmt;
+use spelling::hexadecimal::Hex;
+use spelling::sample::{OWN, SERIAL, to_tag};
+use spelling::sent::{framed, replied};
 use tag::hear;
-
-const SERIAL: [u8; 8] = [0xef, 0x04, 0x02, 0x00, 0x00, 0x00, 0x00, 0x01];
-
-// The longest frame.
-const LONGEST_FRAME: usize = 17;
-
-// The longest reply: 256 bytes of memory and their check value.
-const LONGEST_REPLY: usize = 258;
 
 // How this tag's coin always falls.
 const COIN: bool = true;
@@ -33,9 +24,6 @@ enum Event {
     // Nothing for so many microseconds.
     Gap(u32),
 }
-
-// All tags whose memory begins with EF 04, as this one's does.
-const OWN: [u8; 10] = [0x00, 0xc0, 0xef, 0x04, 0x00, 0x00, 0x00, 0x00, 0x00, 0x00];
 
 // All tags whose memory begins with EF 05.
 const FOREIGN: [u8; 10] = [0x00, 0xc0, 0xef, 0x05, 0x00, 0x00, 0x00, 0x00, 0x00, 0x00];
@@ -71,53 +59,6 @@ const LIFE: [Event; 28] = [
     Event::ToAll(Command::Reset, &[]),
 ];
 
-// Bytes in hexadecimal, and a dash for none.
-#[derive(Drop)]
-struct Hex<'a> {
-    bytes: &'a [u8],
-}
-
-impl fmt::Display for Hex<'_> {
-    fn fmt<W: fmt::Write>(&self, f: &mut fmt::Formatter<W>) -> fmt::Result {
-        if self.bytes.is_empty() {
-            return write!(f, "-");
-        }
-        let mut blank = "";
-        for byte in self.bytes {
-            write!(f, "{blank}{byte:02X}")?;
-            blank = " ";
-        }
-        Ok(())
-    }
-}
-
-// The tag's serial number, and what stands behind it.
-fn to_tag(heap: Global, rest: &[u8]) -> Result<Vec<u8>, AllocError> {
-    let mut bytes = Vec::from_slice(heap, &SERIAL)?;
-    bytes.extend_from_slice(rest)?;
-    Ok(bytes)
-}
-
-fn code(command: Command) -> anyhow::Result<u8> {
-    for entry in COMMANDS {
-        if entry.command == command {
-            return Ok(entry.code);
-        }
-    }
-    Err(anyhow!("a command has no code"))
-}
-
-fn framed(heap: Global, command: Command, parameters: &[u8]) -> anyhow::Result<Vec<u8>> {
-    let mut buffer = [0u8; LONGEST_FRAME];
-    let Ok(length) = make(code(command)?, parameters, &mut buffer) else {
-        return Err(anyhow!("a frame could not be made"));
-    };
-    let Some(bytes) = buffer.get(0..length) else {
-        return Err(anyhow!("a frame is too long"));
-    };
-    Ok(Vec::from_slice(heap, bytes)?)
-}
-
 // A tag, and where its life is printed.
 #[derive(Drop)]
 struct Player<'a> {
@@ -139,12 +80,12 @@ impl Player<'_> {
     }
 
     fn send(&mut self, command: Command, parameters: &[u8]) -> anyhow::Result<()> {
-        let frame = framed(self.rt.alloc(), command, parameters)?;
+        let frame = framed(self.rt.alloc(), u8::from(command), parameters)?;
         self.say(command.name(), frame.as_slice())
     }
 
     fn send_damaged(&mut self, command: Command) -> anyhow::Result<()> {
-        let mut frame = framed(self.rt.alloc(), command, &[])?;
+        let mut frame = framed(self.rt.alloc(), u8::from(command), &[])?;
         if let Some(last) = frame.last_mut() {
             *last ^= 1;
         }
@@ -153,7 +94,7 @@ impl Player<'_> {
 
     fn say(&mut self, name: &str, bytes: &[u8]) -> anyhow::Result<()> {
         let reply = hear(&mut self.tag, bytes, COIN);
-        let frame = Hex { bytes };
+        let frame = Hex::spaced(bytes);
         let sent = format!(in self.rt.alloc(); "{name:<18}  {frame}")?;
         self.print(sent.as_str(), reply)
     }
@@ -166,8 +107,9 @@ impl Player<'_> {
 
     // Prints what was sent, the reply to it, and the tag's record now.
     fn print(&self, sent: &str, reply: Option<Reply>) -> anyhow::Result<()> {
-        let reply = self.written(reply)?;
-        let state = self.tag.state.name();
+        let bytes = replied(self.rt.alloc(), &self.tag, reply)?;
+        let reply = format!(in self.rt.alloc(); "{}", Hex::spaced(bytes.as_slice()))?;
+        let state = self.tag.state;
         let flag = u8::from(self.tag.identified);
         let counter = self.tag.counter;
         let mark = self.tag.mark.number();
@@ -176,27 +118,11 @@ impl Player<'_> {
         )?;
         Ok(())
     }
-
-    // The bytes of a reply, or of none, in hexadecimal.
-    fn written(&self, reply: Option<Reply>) -> anyhow::Result<String> {
-        let mut buffer = [0u8; LONGEST_REPLY];
-        let length = match reply {
-            Some(reply) => reply.write(&self.tag, &mut buffer),
-            None => Ok(0),
-        };
-        let Ok(length) = length else {
-            return Err(anyhow!("a reply could not be written"));
-        };
-        let Some(bytes) = buffer.get(0..length) else {
-            return Err(anyhow!("a reply is too long"));
-        };
-        Ok(format!(in self.rt.alloc(); "{}", Hex { bytes })?)
-    }
 }
 
 fn run(rt: &HostRuntime) -> anyhow::Result<()> {
     let mut memory = [0u8; SIZE];
-    memory[0..8].copy_from_slice(&SERIAL);
+    memory[..SERIAL.len()].copy_from_slice(&SERIAL);
     let mut player = Player {
         rt,
         tag: Tag::new(memory),

@@ -1,0 +1,44 @@
+// What is sent: the bytes of frames and of replies.
+ghost use Rattle.std.specs.Prelude.{◌≡◌, ◌⊎◌, IfOk, IfErr};
+ghost use Rattle.frame.specs.Makings.{making, made, unmade};
+ghost use Rattle.protocol.specs.Refusals.{number_of};
+ghost use Rattle.protocol.specs.declared.refusal.Refusal.{Refusal};
+ghost use Rattle.spelling.specs.Sent.{reply_bytes};
+ghost use Rattle.spelling.specs.declared.misspelt.Misspelt.TheVariants.{Memory, Refused};
+
+use crate::misspelt::Misspelt;
+use frame::making::make;
+use record::Tag;
+use reply::Reply;
+use std::alloc::Global;
+
+// The longest frame.
+const LONGEST_FRAME: usize = 17;
+
+// The longest reply: 256 bytes of memory and their check value.
+const LONGEST_REPLY: usize = 258;
+
+// The frame of a code with its parameters.
+pub fn framed(heap: Global, code: u8, parameters: &[u8]) -> Result<Vec<u8>, Misspelt>
+    ensures ok { IfOk result (λ bytes. making code parameters.now 17 ≡ made bytes.items) }
+    ensures err { IfErr result (λ e. (e ≡ Memory) ⊎ ((refusal : Refusal) × (e ≡ Refused refusal) × (making code parameters.now 17 ≡ unmade (number_of refusal)))) }
+{
+    let mut frame = vec![in heap; 0u8; LONGEST_FRAME]?;
+    let length = make(code, parameters, frame.as_mut_slice())?;
+    frame.truncate(length);
+    Ok(frame)
+}
+
+// A tag's reply, with its check value, or no bytes for none.
+pub fn replied(heap: Global, tag: &Tag, reply: Option<Reply>) -> Result<Vec<u8>, Misspelt>
+    ensures ok { IfOk result (λ bytes. bytes.items ≡ reply_bytes tag.now reply) }
+    ensures err { IfErr result (λ e. e ≡ Memory) }
+{
+    let Some(reply) = reply else {
+        return Ok(Vec::new(heap));
+    };
+    let mut bytes = vec![in heap; 0u8; LONGEST_REPLY]?;
+    let length = reply.write(tag, bytes.as_mut_slice())?;
+    bytes.truncate(length);
+    Ok(bytes)
+}
