@@ -1,13 +1,15 @@
 // A field, built as words say: `bench N`, `single`, `pair LEFT RIGHT`, `spoiler K BELOW`.
-use crate::nesting::{Leaf, Node};
-use anyhow::anyhow;
+use crate::nesting::{Leaf, Nesting, Node};
+use anyhow::{Context, anyhow};
 use bench::bench::Bench;
 use bench::single::Single;
-use field::declined::Misfit;
+use field::declined::{Declined, Misfit};
 use field::field::Field;
 use layers::pair::Pair;
 use layers::spoiler::Spoiler;
 use record::Tag;
+use std::iter::Peekable;
+use std::str::SplitWhitespace;
 
 // Why there is no field.
 #[derive(Drop)]
@@ -24,53 +26,51 @@ impl From<anyhow::Error> for Trouble {
     }
 }
 
-// The words of a nesting, one after the other.
-#[derive(Drop)]
-pub(crate) struct Words<'a> {
-    pub(crate) words: &'a [&'a str],
-    pub(crate) at: usize,
+impl<T: Drop> From<Declined<T>> for Trouble {
+    fn from(declined: Declined<T>) -> Trouble {
+        Trouble::Refused(declined.refusal)
+    }
 }
 
-impl<'a> Words<'a> {
-    fn peek(&self) -> Option<&'a str> {
-        match self.words.get(self.at) {
-            Some(word) => Some(*word),
-            None => None,
-        }
-    }
+// The words of a nesting, one after the other.
+#[derive(Drop)]
+struct Words<'w> {
+    words: Peekable<SplitWhitespace<'w>>,
+}
 
+impl<'w> Words<'w> {
     // Whether the next word is this one, which is then taken.
-    pub(crate) fn takes(&mut self, word: &str) -> bool {
-        match self.peek() {
-            Some(next) if next == word => {
-                self.at = self.at.saturating_add(1);
-                true
-            }
-            _ => false,
-        }
+    fn takes(&mut self, word: &str) -> bool {
+        self.words.next_if(|next| *next == word).is_some()
     }
 
-    fn next(&mut self) -> anyhow::Result<&'a str> {
-        match self.peek() {
-            Some(word) => {
-                self.at = self.at.saturating_add(1);
-                Ok(word)
-            }
-            None => Err(anyhow!("a word is missing")),
-        }
+    fn next(&mut self) -> anyhow::Result<&'w str> {
+        self.words.next().context("a word is missing")
     }
 
     fn count(&mut self) -> anyhow::Result<usize> {
         Ok(self.next()?.parse::<usize>()?)
     }
 
-    pub(crate) fn period(&mut self) -> anyhow::Result<u16> {
+    fn period(&mut self) -> anyhow::Result<u16> {
         Ok(self.next()?.parse::<u16>()?)
     }
 }
 
+// The field that a nesting means, of all tags of a table.
+pub(crate) fn built<'a>(nesting: &str, table: &'a mut [Tag]) -> Result<Nesting<'a>, Trouble> {
+    let mut words = Words {
+        words: nesting.split_whitespace().peekable(),
+    };
+    let (parts, rest) = Parts::read(&mut words, table)?;
+    if !rest.is_empty() {
+        return Err(Trouble::Words(anyhow!("too many tags")));
+    }
+    parts.joined()
+}
+
 // What can be built from words and the front of a table; the rest of the table comes back.
-pub(crate) trait Build<'a>: Sized {
+trait Build<'a>: Sized {
     fn build(words: &mut Words<'_>, table: &'a mut [Tag]) -> Result<(Self, &'a mut [Tag]), Trouble>;
 }
 
@@ -91,24 +91,57 @@ impl<'a> Build<'a> for Leaf<'a> {
 }
 
 fn bench_leaf(places: usize, table: &mut [Tag]) -> Result<(Leaf<'_>, &mut [Tag]), Trouble> {
-    if places > table.len() {
-        return Err(Trouble::Words(anyhow!("too few tags")));
-    }
-    let (front, rest) = table.split_at_mut(places);
+    let (front, rest) = table.split_at_mut_checked(places).context("too few tags")?;
     let mut bench = Bench::new();
-    match bench.set_table(front) {
-        Ok(()) => Ok((Leaf::Table(bench), rest)),
-        Err(declined) => Err(Trouble::Refused(declined.refusal)),
-    }
+    bench.set_table(front)?;
+    Ok((Leaf::Table(bench), rest))
 }
 
 fn single_leaf(table: &mut [Tag]) -> Result<(Leaf<'_>, &mut [Tag]), Trouble> {
-    if table.is_empty() {
-        return Err(Trouble::Words(anyhow!("too few tags")));
+    let (tag, rest) = table.split_first_mut().context("too few tags")?;
+    Ok((Leaf::Lone(Single::new(*tag)), rest))
+}
+
+// What a layer is made of, before it is put on.
+#[derive(Drop)]
+enum Parts<F> {
+    Bare(F),
+    Spoiled(F, u16),
+    Paired(F, F),
+}
+
+impl<F: Field> Parts<F> {
+    fn read<'a>(
+        words: &mut Words<'_>,
+        table: &'a mut [Tag],
+    ) -> Result<(Parts<F>, &'a mut [Tag]), Trouble>
+    where
+        F: Build<'a> + Drop,
+    {
+        if words.takes("pair") {
+            let (left, rest) = F::build(words, table)?;
+            let (right, rest) = F::build(words, rest)?;
+            return Ok((Parts::Paired(left, right), rest));
+        }
+        if words.takes("spoiler") {
+            let period = words.period()?;
+            let (field, rest) = F::build(words, table)?;
+            return Ok((Parts::Spoiled(field, period), rest));
+        }
+        let (field, rest) = F::build(words, table)?;
+        Ok((Parts::Bare(field), rest))
     }
-    let tag = table[0];
-    let (_, rest) = table.split_at_mut(1);
-    Ok((Leaf::Lone(Single::new(tag)), rest))
+
+    fn joined(self) -> Result<Node<F>, Trouble>
+    where
+        F: Drop,
+    {
+        Ok(match self {
+            Parts::Bare(field) => Node::Bare(field),
+            Parts::Spoiled(field, period) => Node::Spoiled(Spoiler::new(field, period)?),
+            Parts::Paired(left, right) => Node::Paired(Pair::new(left, right)?),
+        })
+    }
 }
 
 impl<'a, F: Field + Build<'a> + Drop> Build<'a> for Node<F> {
@@ -116,23 +149,7 @@ impl<'a, F: Field + Build<'a> + Drop> Build<'a> for Node<F> {
         words: &mut Words<'_>,
         table: &'a mut [Tag],
     ) -> Result<(Node<F>, &'a mut [Tag]), Trouble> {
-        if words.takes("pair") {
-            let (left, rest) = F::build(words, table)?;
-            let (right, rest) = F::build(words, rest)?;
-            return match Pair::new(left, right) {
-                Ok(pair) => Ok((Node::Paired(pair), rest)),
-                Err(declined) => Err(Trouble::Refused(declined.refusal)),
-            };
-        }
-        if words.takes("spoiler") {
-            let period = words.period()?;
-            let (field, rest) = F::build(words, table)?;
-            return match Spoiler::new(field, period) {
-                Ok(spoiler) => Ok((Node::Spoiled(spoiler), rest)),
-                Err(declined) => Err(Trouble::Refused(declined.refusal)),
-            };
-        }
-        let (field, rest) = F::build(words, table)?;
-        Ok((Node::Bare(field), rest))
+        let (parts, rest) = Parts::read(words, table)?;
+        Ok((parts.joined()?, rest))
     }
 }

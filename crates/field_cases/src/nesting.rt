@@ -12,6 +12,9 @@ use layers::spoiler::Spoiler;
 use protocol::refusal::Refusal;
 use record::Tag;
 
+// Every nesting of at most three layers.
+pub(crate) type Nesting<'a> = Node<Node<Node<Leaf<'a>>>>;
+
 // What stands at the bottom.
 #[derive(Drop)]
 pub(crate) enum Leaf<'a> {

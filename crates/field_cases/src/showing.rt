@@ -3,32 +3,13 @@ use field::field::Field;
 use record::{State, Tag};
 use std::fmt;
 
-// Bytes in hexadecimal, and a dash for none.
-#[derive(Drop)]
-pub(crate) struct Hex<'a> {
-    pub(crate) bytes: &'a [u8],
-}
-
-impl fmt::Display for Hex<'_> {
-    fn fmt<W: fmt::Write>(&self, f: &mut fmt::Formatter<W>) -> fmt::Result {
-        if self.bytes.is_empty() {
-            return write!(f, "-");
-        }
-        for byte in self.bytes {
-            write!(f, "{byte:02X}")?;
-        }
-        Ok(())
-    }
-}
-
 // Bytes up to the last that is not 00.
 pub(crate) fn without_end(bytes: &[u8]) -> &[u8] {
-    for length in (0..bytes.len()).rev() {
-        if bytes[length] != 0 {
-            return &bytes[0..length + 1];
-        }
+    let mut bytes = bytes;
+    while let [front @ .., 0] = bytes {
+        bytes = front;
     }
-    &[]
+    bytes
 }
 
 // A number of 64 bits that tells what bytes it has taken (FNV-1a).
@@ -39,8 +20,7 @@ pub(crate) struct Fingerprint {
 
 impl fmt::Display for Fingerprint {
     fn fmt<W: fmt::Write>(&self, f: &mut fmt::Formatter<W>) -> fmt::Result {
-        let value = self.value;
-        write!(f, "{value:016X}")
+        write!(f, "{:016X}", self.value)
     }
 }
 
@@ -93,10 +73,8 @@ pub(crate) fn of_bytes(bytes: &[u8]) -> Fingerprint {
 // Of all records of a field, by place.
 pub(crate) fn of_tags<F: Field>(field: &F) -> Fingerprint {
     let mut fingerprint = Fingerprint::new();
-    for place in 0..field.places() {
-        if let Some(tag) = field.tag(place) {
-            fingerprint.take_tag(tag);
-        }
+    for tag in (0..field.places()).filter_map(|place| field.tag(place)) {
+        fingerprint.take_tag(tag);
     }
     fingerprint
 }
