@@ -28,10 +28,15 @@ impl<'a, F: Field> Asked<'a, F> {
         }
     }
 
-    pub(crate) fn ask(&mut self, question: &str) -> anyhow::Result<()> {
-        let (verb, rest) = question
-            .split_once(' ')
-            .context("no question to a field")?;
+    pub(crate) fn ask_all(&mut self, questions: &[String]) -> anyhow::Result<()> {
+        for question in questions {
+            self.ask(question.as_str())?;
+        }
+        Ok(())
+    }
+
+    fn ask(&mut self, question: &str) -> anyhow::Result<()> {
+        let (verb, rest) = question.split_once(' ').context("no question to a field")?;
         match verb {
             "send" => self.send(rest),
             "gap" => self.wait(rest),

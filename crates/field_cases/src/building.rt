@@ -1,5 +1,5 @@
 // A field, built as words say: `bench N`, `single`, `pair LEFT RIGHT`, `spoiler K BELOW`.
-use crate::nesting::{Leaf, Nesting, Node};
+use crate::nesting::{Leaf, Node};
 use anyhow::{Context, anyhow};
 use bench::bench::Bench;
 use bench::single::Single;
@@ -34,7 +34,7 @@ impl<T: Drop> From<Declined<T>> for Trouble {
 
 // The words of a nesting, one after the other.
 #[derive(Drop)]
-struct Words<'w> {
+pub(crate) struct Words<'w> {
     words: Peekable<SplitWhitespace<'w>>,
 }
 
@@ -58,11 +58,14 @@ impl<'w> Words<'w> {
 }
 
 // The field that a nesting means, of all tags of a table.
-pub(crate) fn built<'a>(nesting: &str, table: &'a mut [Tag]) -> Result<Nesting<'a>, Trouble> {
+pub(crate) fn built<'a, F: Field + Build<'a> + Drop>(
+    nesting: &str,
+    table: &'a mut [Tag],
+) -> Result<Node<F>, Trouble> {
     let mut words = Words {
         words: nesting.split_whitespace().peekable(),
     };
-    let (parts, rest) = Parts::read(&mut words, table)?;
+    let (parts, rest) = Parts::<F>::read(&mut words, table)?;
     if !rest.is_empty() {
         return Err(Trouble::Words(anyhow!("too many tags")));
     }
@@ -70,7 +73,7 @@ pub(crate) fn built<'a>(nesting: &str, table: &'a mut [Tag]) -> Result<Nesting<'
 }
 
 // What can be built from words and the front of a table; the rest of the table comes back.
-trait Build<'a>: Sized {
+pub(crate) trait Build<'a>: Sized {
     fn build(words: &mut Words<'_>, table: &'a mut [Tag]) -> Result<(Self, &'a mut [Tag]), Trouble>;
 }
 
@@ -80,10 +83,7 @@ impl<'a> Build<'a> for Leaf<'a> {
         table: &'a mut [Tag],
     ) -> Result<(Leaf<'a>, &'a mut [Tag]), Trouble> {
         match words.next()? {
-            "bench" => {
-                let places = words.count()?;
-                bench_leaf(places, table)
-            }
+            "bench" => bench_leaf(words.count()?, table),
             "single" => single_leaf(table),
             _ => Err(Trouble::Words(anyhow!("no field"))),
         }

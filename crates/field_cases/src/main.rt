@@ -10,7 +10,8 @@ mod reading;
 mod showing;
 
 use crate::asking::Asked;
-use crate::building::{Trouble, built};
+use crate::building::{Build, Trouble, built};
+use crate::nesting::Below;
 use crate::reading::read_tag;
 use crate::showing::of_tags;
 use anyhow::{Context, bail, ensure};
@@ -45,34 +46,22 @@ fn find(rt: &HostRuntime, table: &[Tag], text: &str) -> anyhow::Result<()> {
     Ok(())
 }
 
-// Puts the questions of a play to its field.
-fn ask_all<F: Field + Drop>(
+// Builds the field of a play, and puts the questions to it. A refused field is one of no tags. What stands below the
+// outermost layer is a parameter, since the toolchain proves this for any such field, and not at a nesting written out.
+fn perform<'a, F: Field + Build<'a> + Drop>(
     rt: &HostRuntime,
-    field: F,
-    questions: &[String],
-) -> anyhow::Result<()> {
-    let mut asked = Asked::new(rt, field);
-    for question in questions {
-        asked.ask(question.as_str())?;
-    }
-    Ok(())
-}
-
-// Builds the field of a play, and puts the questions to it. A refused field is one of no tags.
-fn perform(
-    rt: &HostRuntime,
-    table: &mut [Tag],
+    table: &'a mut [Tag],
     nesting: &str,
     questions: &[String],
 ) -> anyhow::Result<()> {
-    match built(nesting, table) {
+    match built::<F>(nesting, table) {
         Ok(field) => {
             println!(rt; "places {} {}", field.places(), of_tags(&field))?;
-            ask_all(rt, field, questions)
+            Asked::new(rt, field).ask_all(questions)
         }
         Err(Trouble::Refused(refusal)) => {
             println!(rt; "refused {}", refusal.number())?;
-            ask_all(rt, Bench::new(), questions)
+            Asked::new(rt, Bench::new()).ask_all(questions)
         }
         Err(Trouble::Words(error)) => Err(error),
     }
@@ -83,7 +72,7 @@ fn play(rt: &HostRuntime, lines: &[String]) -> anyhow::Result<()> {
     let mut lines = lines;
     while let [line, questions @ ..] = lines {
         if let Some(nesting) = line.as_str().strip_prefix("field ") {
-            return perform(rt, table.as_mut_slice(), nesting, questions);
+            return perform::<Below>(rt, table.as_mut_slice(), nesting, questions);
         }
         prepare(rt, &mut table, line.as_str())?;
         lines = questions;

@@ -12,8 +12,8 @@ use layers::spoiler::Spoiler;
 use protocol::refusal::Refusal;
 use record::Tag;
 
-// Every nesting of at most three layers.
-pub(crate) type Nesting<'a> = Node<Node<Node<Leaf<'a>>>>;
+// What stands below the outermost layer of a nesting of at most three.
+pub(crate) type Below<'a> = Node<Node<Leaf<'a>>>;
 
 // What stands at the bottom.
 #[derive(Drop)]

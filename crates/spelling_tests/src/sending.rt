@@ -12,8 +12,14 @@ fn frames_are_made(rt: HostRuntime) -> Result<(), Fail> {
     let select = [
         0x00, 0x00, 0xc0, 0xef, 0x04, 0x00, 0x00, 0x00, 0x00, 0x00, 0x00, 0xa3, 0xa6,
     ];
-    assert_eq!(rt; framed(rt.alloc(), 0x00, &OWN)?.as_slice(), select.as_slice());
-    assert_eq!(rt; framed(rt.alloc(), 0x08, &[])?.as_slice(), [0x08, 0x9f, 0x07].as_slice());
+    assert_eq!(rt;
+        framed(rt.alloc(), 0x00, &OWN)?.as_slice(),
+        select.as_slice()
+    );
+    assert_eq!(rt;
+        framed(rt.alloc(), 0x08, &[])?.as_slice(),
+        [0x08, 0x9f, 0x07].as_slice()
+    );
     Ok(())
 }
 
@@ -31,7 +37,10 @@ fn replies_are_written(rt: HostRuntime) -> Result<(), Fail> {
     memory[..SERIAL.len()].copy_from_slice(&SERIAL);
     let tag = Tag::new(memory);
     let serial = [0xef, 0x04, 0x02, 0x00, 0x00, 0x00, 0x00, 0x01, 0x3d, 0x9d];
-    assert_eq!(rt; replied(rt.alloc(), &tag, Some(Reply::Serial))?.as_slice(), serial.as_slice());
+    assert_eq!(rt;
+        replied(rt.alloc(), &tag, Some(Reply::Serial))?.as_slice(),
+        serial.as_slice()
+    );
     let status = replied(rt.alloc(), &tag, Some(Reply::Status(0x00)))?;
     assert_eq!(rt; status.as_slice(), [0x00, 0x1e, 0x0f].as_slice());
     let longest = Reply::Memory {
