@@ -3,6 +3,8 @@ use Rattle.std.specs.Prelude.{◌≡◌, ℕ, ◌++◌, ◌⊎◌, List, [], ◌
 use Rattle.std.specs.Char.{is_ascii_lowercase}
 use Rattle.std.specs.List.{flat_map, list_any}
 use Rattle.hex.specs.Hex.{encode_upper, IsBytes}
+use Rattle.spelling.specs.declared.misspelt.Misspelt.{Misspelt}
+use Rattle.spelling.specs.declared.misspelt.Misspelt.TheVariants.{Bytes}
 
 -- A byte by two digits, behind something.
 abbrev pub behind : List ℕ → ℕ → List ℕ
@@ -21,6 +23,10 @@ SpellsDigits text bytes = IsBytes bytes × (encode_upper bytes ≡ text)
 abbrev pub SpellsBytes : List ℕ → List ℕ → Type 0
 SpellsBytes text bytes = SpellsDigits text bytes ⊎ ((text ≡ codes "-") × (bytes ≡ []))
 
+-- It spells nothing at all, and an error says so.
+abbrev pub IsNoBytes : List ℕ → Misspelt → Type 0
+IsNoBytes text e = (e ≡ Bytes) × ((bytes : List ℕ) → SpellsBytes text bytes → ⊥)
+
 -- It spells a certain number of bytes.
 abbrev pub SpellsArray : ℕ → List ℕ → List ℕ → Type 0
 SpellsArray n text bytes = SpellsDigits text bytes × (length bytes ≡ n)
@@ -29,5 +35,6 @@ SpellsArray n text bytes = SpellsDigits text bytes × (length bytes ≡ n)
 abbrev pub SpellsByte : List ℕ → ℕ → Type 0
 SpellsByte text byte = SpellsDigits text (byte ∷ [])
 
+-- Whether a text has small letters.
 abbrev pub has_small : List ℕ → Bool
 has_small text = list_any is_ascii_lowercase text

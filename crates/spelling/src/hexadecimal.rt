@@ -1,8 +1,8 @@
 // Bytes in hexadecimal, with capital letters, and a dash for none.
 ghost use Rattle.std.specs.Fmt.{WritesOnOk};
-ghost use Rattle.std.specs.Prelude.{◌≡◌, ℕ, ◌⊎◌, List, [], ◌∷◌, codes, IfOk, IfErr, Some};
+ghost use Rattle.std.specs.Prelude.{◌≡◌, ◌⊎◌, [], ◌∷◌, codes, IfOk, IfErr, Some};
 ghost use Rattle.hex.specs.Hex.{encode_upper};
-ghost use Rattle.spelling.specs.Hexadecimal.{shown, has_small, SpellsBytes, SpellsArray, SpellsByte};
+ghost use Rattle.spelling.specs.Hexadecimal.{shown, has_small, SpellsBytes, SpellsArray, SpellsByte, IsNoBytes};
 ghost use Rattle.spelling.specs.Misspellings.{Reads};
 ghost use Rattle.spelling.specs.declared.misspelt.Misspelt.TheVariants.{Bytes, Memory};
 
@@ -62,7 +62,7 @@ fn write_byte<W: fmt::Write>(f: &mut fmt::Formatter<W>, byte: u8) -> fmt::Result
 // The bytes that a text spells.
 pub fn read_bytes(heap: Global, text: &str) -> Result<Vec<u8>, Misspelt>
     ensures ok { IfOk result (λ bytes. SpellsBytes text.now bytes.items) }
-    ensures err { IfErr result (λ e. (e ≡ Memory) ⊎ ((e ≡ Bytes) × ((bytes : List ℕ) → SpellsBytes text.now bytes → ⊥))) }
+    ensures err { IfErr result (λ e. (e ≡ Memory) ⊎ IsNoBytes text.now e) }
 {
     if text == "-" {
         return Ok(Vec::new(heap));

@@ -1,10 +1,7 @@
 // What is sent: the bytes of frames and of replies.
 ghost use Rattle.std.specs.Prelude.{◌≡◌, ◌⊎◌, IfOk, IfErr};
-ghost use Rattle.frame.specs.Makings.{making, made, unmade};
-ghost use Rattle.protocol.specs.Refusals.{number_of};
-ghost use Rattle.protocol.specs.declared.refusal.Refusal.{Refusal};
-ghost use Rattle.spelling.specs.Sent.{reply_bytes};
-ghost use Rattle.spelling.specs.declared.misspelt.Misspelt.TheVariants.{Memory, Refused};
+ghost use Rattle.spelling.specs.Sent.{IsFrame, IsNoFrame, reply_bytes};
+ghost use Rattle.spelling.specs.declared.misspelt.Misspelt.TheVariants.{Memory};
 
 use crate::misspelt::Misspelt;
 use frame::making::make;
@@ -20,8 +17,8 @@ const LONGEST_REPLY: usize = 258;
 
 // The frame of a code with its parameters.
 pub fn framed(heap: Global, code: u8, parameters: &[u8]) -> Result<Vec<u8>, Misspelt>
-    ensures ok { IfOk result (λ bytes. making code parameters.now 17 ≡ made bytes.items) }
-    ensures err { IfErr result (λ e. (e ≡ Memory) ⊎ ((refusal : Refusal) × (e ≡ Refused refusal) × (making code parameters.now 17 ≡ unmade (number_of refusal)))) }
+    ensures ok { IfOk result (λ bytes. IsFrame code parameters.now bytes.items) }
+    ensures err { IfErr result (λ e. (e ≡ Memory) ⊎ IsNoFrame code parameters.now e) }
 {
     let mut frame = vec![in heap; 0u8; LONGEST_FRAME]?;
     let length = make(code, parameters, frame.as_mut_slice())?;

@@ -66,5 +66,5 @@ pub fn read_locks(text: &str) -> Result<[bool; SIZE], Misspelt>
     ensures { Reads SpellsLocks Bytes text.now result }
 {
     let bytes = read_array::<LOCK_BYTES>(text)?;
-    Ok(array::from_fn(|address| { (bytes[address / 8] >> (7 - address % 8)) % 2 == 1 }))
+    Ok(array::from_fn(|address| (bytes[address / 8] >> (7 - address % 8)) % 2 == 1))
 }
