@@ -2,7 +2,6 @@
 use Rattle.std.specs.Prelude.{◌≤◌, List, [], ◌∷◌, length}
 use Rattle.std.proofs.Common.{lit≤}
 use Rattle.record.specs.declared.Tag.{Tag}
-use Rattle.bench.specs.Tables.{meant, meant_few}
 use Rattle.layers.specs.Pairs.{paired, paired_few}
 use Rattle.field_cases.specs.declared.nesting.Leaf.{Leaf}
 use Rattle.field_cases.specs.declared.nesting.Leaf.TheVariants.{Table, Lone}
@@ -10,11 +9,11 @@ use Rattle.field_cases.specs.declared.nesting.Node.{Node}
 use Rattle.field_cases.specs.declared.nesting.Node.TheVariants.{Bare, Spoiled, Paired}
 
 abbrev pub leaf_tags : Leaf → List Tag
-leaf_tags (Table b) = meant b.table.now
-leaf_tags (Lone s) = s.tag ∷ []
+leaf_tags (Table b) = b.table.now
+leaf_tags (Lone s) = s ∷ []
 
 pub leaf_few : (l : Leaf) → length (leaf_tags l) ≤ 64
-leaf_few (Table b) = meant_few b.table.now
+leaf_few (Table b) = b.few
 leaf_few (Lone s) = lit≤ tt
 
 abbrev pub node_tags : {F : Type 0} → (F → List Tag) → Node F → List Tag
