@@ -9,7 +9,9 @@ use layers::pair::Pair;
 use layers::spoiler::Spoiler;
 use record::Tag;
 use std::iter::Peekable;
-use std::str::SplitWhitespace;
+use std::mem;
+use std::num::ParseIntError;
+use std::str::{FromStr, SplitWhitespace};
 
 // Why there is no field.
 #[derive(Drop)]
@@ -32,74 +34,76 @@ impl<T: Drop> From<Declined<T>> for Trouble {
     }
 }
 
-// The words of a nesting, one after the other.
+// What fields are built from: the words of a nesting, one after the other, and the tags that none has yet.
 #[derive(Drop)]
-pub(crate) struct Words<'w> {
+pub(crate) struct Source<'w, 'a> {
     words: Peekable<SplitWhitespace<'w>>,
+    tags: &'a mut [Tag],
 }
 
-impl<'w> Words<'w> {
+impl<'w, 'a> Source<'w, 'a> {
     // Whether the next word is this one, which is then taken.
     fn takes(&mut self, word: &str) -> bool {
         self.words.next_if(|next| *next == word).is_some()
     }
 
-    fn next(&mut self) -> anyhow::Result<&'w str> {
+    fn word(&mut self) -> anyhow::Result<&'w str> {
         self.words.next().context("a word is missing")
     }
 
-    fn count(&mut self) -> anyhow::Result<usize> {
-        Ok(self.next()?.parse::<usize>()?)
+    fn number<T: FromStr<Err = ParseIntError>>(&mut self) -> anyhow::Result<T> {
+        Ok(self.word()?.parse::<T>()?)
     }
 
-    fn period(&mut self) -> anyhow::Result<u16> {
-        Ok(self.next()?.parse::<u16>()?)
+    // So many of the tags, the first of them.
+    fn table(&mut self, places: usize) -> anyhow::Result<&'a mut [Tag]> {
+        let tags = mem::replace(&mut self.tags, &mut []);
+        let (front, rest) = tags.split_at_mut_checked(places).context("too few tags")?;
+        self.tags = rest;
+        Ok(front)
     }
 }
 
 // The field that a nesting means, of all tags of a table.
 pub(crate) fn built<'a, F: Field + Build<'a> + Drop>(
     nesting: &str,
-    table: &'a mut [Tag],
+    tags: &'a mut [Tag],
 ) -> Result<Node<F>, Trouble> {
-    let mut words = Words {
+    let mut source = Source {
         words: nesting.split_whitespace().peekable(),
+        tags,
     };
-    let (parts, rest) = Parts::<F>::read(&mut words, table)?;
-    if !rest.is_empty() {
+    let parts = Parts::<F>::read(&mut source)?;
+    if !source.tags.is_empty() {
         return Err(Trouble::Words(anyhow!("too many tags")));
     }
     parts.joined()
 }
 
-// What can be built from words and the front of a table; the rest of the table comes back.
 pub(crate) trait Build<'a>: Sized {
-    fn build(words: &mut Words<'_>, table: &'a mut [Tag]) -> Result<(Self, &'a mut [Tag]), Trouble>;
+    fn build(source: &mut Source<'_, 'a>) -> Result<Self, Trouble>;
 }
 
 impl<'a> Build<'a> for Leaf<'a> {
-    fn build(
-        words: &mut Words<'_>,
-        table: &'a mut [Tag],
-    ) -> Result<(Leaf<'a>, &'a mut [Tag]), Trouble> {
-        match words.next()? {
-            "bench" => bench_leaf(words.count()?, table),
-            "single" => single_leaf(table),
+    fn build(source: &mut Source<'_, 'a>) -> Result<Leaf<'a>, Trouble> {
+        match source.word()? {
+            "bench" => bench_leaf(source),
+            "single" => single_leaf(source),
             _ => Err(Trouble::Words(anyhow!("no field"))),
         }
     }
 }
 
-fn bench_leaf(places: usize, table: &mut [Tag]) -> Result<(Leaf<'_>, &mut [Tag]), Trouble> {
-    let (front, rest) = table.split_at_mut_checked(places).context("too few tags")?;
+fn bench_leaf<'a>(source: &mut Source<'_, 'a>) -> Result<Leaf<'a>, Trouble> {
+    let places = source.number::<usize>()?;
     let mut bench = Bench::new();
-    bench.set_table(front)?;
-    Ok((Leaf::Table(bench), rest))
+    bench.set_table(source.table(places)?)?;
+    Ok(Leaf::Table(bench))
 }
 
-fn single_leaf(table: &mut [Tag]) -> Result<(Leaf<'_>, &mut [Tag]), Trouble> {
-    let (tag, rest) = table.split_first_mut().context("too few tags")?;
-    Ok((Leaf::Lone(Single::new(*tag)), rest))
+fn single_leaf<'a>(source: &mut Source<'_, 'a>) -> Result<Leaf<'a>, Trouble> {
+    let tag = source.table(1)?.first().context("too few tags")?;
+    Ok(Leaf::Lone(Single::new(*tag)))
 }
 
 // What a layer is made of, before it is put on.
@@ -111,25 +115,19 @@ enum Parts<F> {
 }
 
 impl<F: Field> Parts<F> {
-    fn read<'a>(
-        words: &mut Words<'_>,
-        table: &'a mut [Tag],
-    ) -> Result<(Parts<F>, &'a mut [Tag]), Trouble>
+    fn read<'a>(source: &mut Source<'_, 'a>) -> Result<Parts<F>, Trouble>
     where
         F: Build<'a> + Drop,
     {
-        if words.takes("pair") {
-            let (left, rest) = F::build(words, table)?;
-            let (right, rest) = F::build(words, rest)?;
-            return Ok((Parts::Paired(left, right), rest));
+        if source.takes("pair") {
+            let left = F::build(source)?;
+            return Ok(Parts::Paired(left, F::build(source)?));
         }
-        if words.takes("spoiler") {
-            let period = words.period()?;
-            let (field, rest) = F::build(words, table)?;
-            return Ok((Parts::Spoiled(field, period), rest));
+        if source.takes("spoiler") {
+            let period = source.number::<u16>()?;
+            return Ok(Parts::Spoiled(F::build(source)?, period));
         }
-        let (field, rest) = F::build(words, table)?;
-        Ok((Parts::Bare(field), rest))
+        Ok(Parts::Bare(F::build(source)?))
     }
 
     fn joined(self) -> Result<Node<F>, Trouble>
@@ -145,11 +143,7 @@ impl<F: Field> Parts<F> {
 }
 
 impl<'a, F: Field + Build<'a> + Drop> Build<'a> for Node<F> {
-    fn build(
-        words: &mut Words<'_>,
-        table: &'a mut [Tag],
-    ) -> Result<(Node<F>, &'a mut [Tag]), Trouble> {
-        let (parts, rest) = Parts::read(words, table)?;
-        Ok((parts.joined()?, rest))
+    fn build(source: &mut Source<'_, 'a>) -> Result<Node<F>, Trouble> {
+        Parts::read(source)?.joined()
     }
 }

@@ -21,29 +21,40 @@ use record::Tag;
 use spelling::hexadecimal::read_bytes;
 use std::io::{BufRead, BufReader};
 
-// A question before there is a field: one tag more, or where a serial number is.
-fn prepare(rt: &HostRuntime, table: &mut Vec<Tag>, question: &str) -> anyhow::Result<()> {
-    let (verb, rest) = question
-        .split_once(' ')
-        .context("no question about a table")?;
-    match verb {
-        "tag" => {
-            table.push(read_tag(rt.alloc(), rest)?)?;
-            println!(rt; "{}", table.len())?;
-        }
-        "find" => find(rt, table.as_slice(), rest)?,
-        _ => bail!("no question about a table"),
-    }
-    Ok(())
+// What a play begins with: a table, which is filled tag by tag.
+#[derive(Drop)]
+struct Stage<'a> {
+    rt: &'a HostRuntime,
+    table: Vec<Tag>,
 }
 
-fn find(rt: &HostRuntime, table: &[Tag], text: &str) -> anyhow::Result<()> {
-    let serial = read_bytes(rt.alloc(), text)?;
-    match place_of(table, serial.as_slice()) {
-        Some(place) => println!(rt; "{place}")?,
-        None => println!(rt; "-")?,
+impl Stage<'_> {
+    // A question before there is a field: one tag more, or where a serial number is.
+    fn prepare(&mut self, question: &str) -> anyhow::Result<()> {
+        let (verb, rest) = question
+            .split_once(' ')
+            .context("no question about a table")?;
+        match verb {
+            "tag" => self.add(rest),
+            "find" => self.find(rest),
+            _ => bail!("no question about a table"),
+        }
     }
-    Ok(())
+
+    fn add(&mut self, text: &str) -> anyhow::Result<()> {
+        self.table.push(read_tag(self.rt.alloc(), text)?)?;
+        println!(self.rt; "{}", self.table.len())?;
+        Ok(())
+    }
+
+    fn find(&self, text: &str) -> anyhow::Result<()> {
+        let serial = read_bytes(self.rt.alloc(), text)?;
+        match place_of(self.table.as_slice(), serial.as_slice()) {
+            Some(place) => println!(self.rt; "{place}")?,
+            None => println!(self.rt; "-")?,
+        }
+        Ok(())
+    }
 }
 
 // Builds the field of a play, and puts the questions to it. A refused field is one of no tags. What stands below the
@@ -68,13 +79,16 @@ fn perform<'a, F: Field + Build<'a> + Drop>(
 }
 
 fn play(rt: &HostRuntime, lines: &[String]) -> anyhow::Result<()> {
-    let mut table = Vec::new(rt.alloc());
+    let mut stage = Stage {
+        rt,
+        table: Vec::new(rt.alloc()),
+    };
     let mut lines = lines;
     while let [line, questions @ ..] = lines {
         if let Some(nesting) = line.as_str().strip_prefix("field ") {
-            return perform::<Below>(rt, table.as_mut_slice(), nesting, questions);
+            return perform::<Below>(rt, stage.table.as_mut_slice(), nesting, questions);
         }
-        prepare(rt, &mut table, line.as_str())?;
+        stage.prepare(line.as_str())?;
         lines = questions;
     }
     bail!("a play without a field")

@@ -78,9 +78,8 @@ fn words_of_a_record(rt: HostRuntime) {
 #[test]
 fn locks_from_the_highest_bit_on(rt: HostRuntime) -> Result<(), Fail> {
     let locks = read_locks("C0000000000001")?;
-    for address in 0..SIZE {
-        let locked = address < 2 || address == 55;
-        assert_eq!(rt; locks[address], locked, "{address}");
+    for (address, is_locked) in locks.iter().enumerate() {
+        assert_eq!(rt; *is_locked, address < 2 || address == 55, "{address}");
     }
     assert_eq!(rt; read_locks("C00000000000"), Err(Misspelt::Bytes));
     Ok(())
