@@ -29,7 +29,7 @@ pub(crate) fn step_all(table: &mut [Tag], opened: &Result<Frame<'_>, Refusal>, r
 pub(crate) fn pass_all(table: &mut [Tag], microseconds: u32)
     ensures { table.new ≡ gapped_all microseconds table.old }
 {
-    for tag in table.iter_mut() {
+    for tag in table {
         tag.pass(microseconds);
     }
 }

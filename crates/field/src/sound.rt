@@ -22,6 +22,7 @@ impl Sound {
         reply.map_or(Sound::Silence, |reply| Sound::Lone { place, reply })
     }
 
+    // A method and no `From`, since it is read at the end of a chain of sounds.
     pub fn hearing(self) -> Hearing
         ensures { result ≡ hearing_of self }
     {

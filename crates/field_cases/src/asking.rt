@@ -37,6 +37,7 @@ impl<'a, F: Field> Asked<'a, F> {
 
     fn ask(&mut self, question: &str) -> anyhow::Result<()> {
         let (verb, rest) = question.split_once(' ').context("no question to a field")?;
+        // A match and no table of closures, since each verb has words of its own.
         match verb {
             "send" => self.send(rest),
             "gap" => self.wait(rest),

@@ -34,6 +34,7 @@ impl Stage<'_> {
         let (verb, rest) = question
             .split_once(' ')
             .context("no question about a table")?;
+        // A match and no table of closures, since each verb has words of its own.
         match verb {
             "tag" => self.add(rest),
             "find" => self.find(rest),

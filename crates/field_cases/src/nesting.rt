@@ -15,7 +15,7 @@ use record::Tag;
 // What stands below the outermost layer of a nesting of at most three.
 pub(crate) type Below<'a> = Node<Node<Leaf<'a>>>;
 
-// What stands at the bottom.
+// What stands at the bottom. An enum hands each call on by a match: a `dyn` of it could not say which tags it means.
 #[derive(Drop)]
 pub(crate) enum Leaf<'a> {
     Table(Bench<'a>),

@@ -27,6 +27,7 @@ impl Tag {
             mask,
             bytes,
         };
+        // The place counts for mask, address and bytes alike, so there is no one list to go over.
         for place in 0..4 {
             given.store_at(self, place);
         }

@@ -29,6 +29,7 @@ pub fn no_word(next: Option<&str>) -> Result<(), Misspelt>
     }
 }
 
+// `parse` would read `true` and `false` instead.
 pub fn read_bit(text: &str) -> Result<bool, Misspelt>
     ensures { Reads SpellsBit Bit text.now result }
 {

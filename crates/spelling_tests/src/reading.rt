@@ -1,6 +1,6 @@
 // What is read and what is refused, of each kind of word, and bytes as they are shown.
 use hex::FromHexError;
-use record::{SIZE, WriteMark};
+use record::WriteMark;
 use spelling::hexadecimal::{Hex, read_array, read_byte, read_bytes};
 use spelling::misspelt::Misspelt;
 use spelling::sample::to_tag;

@@ -20,6 +20,7 @@ use tag::step;
 // Does to the tag what a question says, and tells its reply if it gives one.
 fn put(heap: Global, tag: &mut Tag, question: &str) -> anyhow::Result<Option<Reply>> {
     let (verb, rest) = question.split_once(' ').context("no question")?;
+    // A match and no table of closures, since each verb has words of its own.
     match verb {
         "new" => *tag = Tag::new(read_array::<SIZE>(rest)?),
         "locks" => tag.locks = read_locks(rest)?,

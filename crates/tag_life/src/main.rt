@@ -68,6 +68,7 @@ struct Player<'a> {
 
 impl Player<'_> {
     fn play(&mut self, event: Event) -> anyhow::Result<()> {
+        // A match and no closure in each event, since a life is a constant table.
         match event {
             Event::ToAll(command, parameters) => self.send(command, parameters),
             Event::ToTag(command, rest) => {
