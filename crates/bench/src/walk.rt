@@ -17,6 +17,7 @@ pub(crate) fn step_all(table: &mut [Tag], opened: &Result<Frame<'_>, Refusal>, r
     ensures plain { hearing_of result ≡ plainly (on_air (seen opened.now) row table.old) }
 {
     let mut sound = Sound::Silence;
+    // The coins fall off the row one by one, as its definition has it; a shift by the place would need a bound.
     let mut coins = row;
     for (place, tag) in table.iter_mut().enumerate() {
         let reply = step(tag, opened, coins % 2 == 1);
@@ -29,7 +30,7 @@ pub(crate) fn step_all(table: &mut [Tag], opened: &Result<Frame<'_>, Refusal>, r
 pub(crate) fn pass_all(table: &mut [Tag], microseconds: u32)
     ensures { table.new ≡ gapped_all microseconds table.old }
 {
-    for tag in table {
+    for tag in table.iter_mut() {
         tag.pass(microseconds);
     }
 }

@@ -22,15 +22,10 @@ impl Sound {
         reply.map_or(Sound::Silence, |reply| Sound::Lone { place, reply })
     }
 
-    // A method and no `From`, since it is read at the end of a chain of sounds.
     pub fn hearing(self) -> Hearing
         ensures { result ≡ hearing_of self }
     {
-        match self {
-            Sound::Silence => Hearing::Silence,
-            Sound::Lone { .. } => Hearing::Lone,
-            Sound::Clash => Hearing::Clash,
-        }
+        Hearing::from(self)
     }
 
     // Heard together with another sound: two that are not silence are a clash.
@@ -41,6 +36,18 @@ impl Sound {
             (Sound::Silence, sound) => sound,
             (sound, Sound::Silence) => sound,
             _ => Sound::Clash,
+        }
+    }
+}
+
+impl From<Sound> for Hearing {
+    ghost from_gives = { λ sound hearing. hearing ≡ hearing_of sound };
+
+    fn from(sound: Sound) -> Hearing {
+        match sound {
+            Sound::Silence => Hearing::Silence,
+            Sound::Lone { .. } => Hearing::Lone,
+            Sound::Clash => Hearing::Clash,
         }
     }
 }

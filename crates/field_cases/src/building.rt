@@ -8,6 +8,7 @@ use field::field::Field;
 use layers::pair::Pair;
 use layers::spoiler::Spoiler;
 use record::Tag;
+use spelling::words::word;
 use std::iter::Peekable;
 use std::mem;
 use std::num::ParseIntError;
@@ -48,7 +49,7 @@ impl<'w, 'a> Source<'w, 'a> {
     }
 
     fn word(&mut self) -> anyhow::Result<&'w str> {
-        self.words.next().context("a word is missing")
+        Ok(word(self.words.next())?)
     }
 
     fn number<T: FromStr<Err = ParseIntError>>(&mut self) -> anyhow::Result<T> {

@@ -15,7 +15,8 @@ use record::Tag;
 // What stands below the outermost layer of a nesting of at most three.
 pub(crate) type Below<'a> = Node<Node<Leaf<'a>>>;
 
-// What stands at the bottom. An enum hands each call on by a match: a `dyn` of it could not say which tags it means.
+// What stands at the bottom. An enum hands each call on by a match: a boxed `dyn` would need the same calls handed on
+// for the box, and an allocation for each layer.
 #[derive(Drop)]
 pub(crate) enum Leaf<'a> {
     Table(Bench<'a>),
@@ -62,7 +63,7 @@ impl<'a> Field for Leaf<'a> {
     }
 }
 
-// A field with at most one layer more over it.
+// A field with at most one layer more over it, as an enum for the same reason.
 #[derive(Drop)]
 pub(crate) enum Node<F> {
     Bare(F),

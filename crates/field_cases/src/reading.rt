@@ -16,6 +16,8 @@ fn read_memory(heap: Global, text: &str) -> anyhow::Result<[u8; SIZE]> {
     Ok(memory)
 }
 
+// The first five words are those that set a tag in the questions about one. There they change a tag that is there, and
+// here they make one: a type for the five would be taken apart at once in both.
 pub(crate) fn read_tag(heap: Global, text: &str) -> anyhow::Result<Tag> {
     let mut words = text.split_whitespace();
     Ok(Tag {

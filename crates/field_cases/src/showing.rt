@@ -1,6 +1,6 @@
 // Answers, as they are written.
 use field::field::Field;
-use record::{State, Tag};
+use record::Tag;
 use std::fmt;
 
 // Bytes up to the last that is not 00.
@@ -35,27 +35,17 @@ impl Fingerprint {
         self.value = (self.value ^ u64::from(byte)).wrapping_mul(0x100_0000_01b3);
     }
 
-    fn take_bytes(&mut self, bytes: &[u8]) {
-        for byte in bytes {
-            self.take(*byte);
-        }
-    }
-
-    fn take_bits(&mut self, bits: &[bool]) {
-        for bit in bits {
-            self.take(u8::from(*bit));
+    fn take_all<T: Copy + Into<u8>>(&mut self, row: &[T]) {
+        for part in row {
+            self.take((*part).into());
         }
     }
 
     // Every part of a record.
     fn take_tag(&mut self, tag: &Tag) {
-        self.take_bytes(&tag.memory);
-        self.take_bits(&tag.locks);
-        self.take(match tag.state {
-            State::Ready => 0,
-            State::Singulation => 1,
-            State::Inventoried => 2,
-        });
+        self.take_all(&tag.memory);
+        self.take_all(&tag.locks);
+        self.take(tag.state as u8);
         self.take(u8::from(tag.identified));
         self.take(tag.counter);
         self.take(tag.mark.number());
@@ -66,7 +56,7 @@ impl Fingerprint {
 
 pub(crate) fn of_bytes(bytes: &[u8]) -> Fingerprint {
     let mut fingerprint = Fingerprint::new();
-    fingerprint.take_bytes(bytes);
+    fingerprint.take_all(bytes);
     fingerprint
 }
 

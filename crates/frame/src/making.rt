@@ -1,8 +1,8 @@
 // Making a frame at the front of a lent buffer.
-ghost use Rattle.std.specs.Prelude.{◌≡◌, ℕ, ◌+◌, length, take, Some, IfOk, IfErr};
+ghost use Rattle.std.specs.Prelude.{◌≡◌, ℕ, ◌+◌, length, take, IfOk, IfErr};
 ghost use Rattle.frame.specs.Cases.{BareFrames};
 ghost use Rattle.frame.specs.Makings.{making, unmade, answering, leaving, OpensAs};
-ghost use Rattle.protocol.specs.Commands.{named, length_of};
+ghost use Rattle.protocol.specs.Commands.{code_of, length_of};
 ghost use Rattle.protocol.specs.Refusals.{answer_of, number_of};
 
 use crate::writer::Writer;
@@ -20,19 +20,17 @@ pub fn make(code: u8, parameters: &[u8], buffer: &mut [u8]) -> Result<usize, Ref
     Draft::of(code, parameters)?.write(buffer)
 }
 
-// A command with its code, and parameters that have its length: a frame, as soon as it has room.
+// A command, and parameters that have its length: a frame, as soon as it has room.
 #[derive(Clone, Copy)]
 struct Draft<'a> {
     command: Command,
-    code: u8,
     parameters: &'a [u8],
-    ghost named: { named code ≡ Some command },
     ghost whole: { length parameters.now + 3 ≡ length_of command },
 }
 
 impl<'a> Draft<'a> {
     fn of(code: u8, parameters: &'a [u8]) -> Result<Draft<'a>, Refusal>
-        ensures code { IfOk result (λ d. d.code ≡ code) }
+        ensures code { IfOk result (λ d. code_of d.command ≡ code) }
         ensures parameters { IfOk result (λ d. d.parameters.now ≡ parameters.now) }
         ensures refusal { IfErr result (λ e. (room : ℕ) → making code parameters.now room ≡ unmade (number_of e)) }
     {
@@ -42,21 +40,20 @@ impl<'a> Draft<'a> {
         }
         Ok(Draft {
             command: entry.command,
-            code,
             parameters,
         })
     }
 
     fn write(&self, buffer: &mut [u8]) -> Result<usize, Refusal>
-        ensures answer { answer_of result ≡ answering (making self.now.code self.now.parameters.now (length buffer.old)) }
-        ensures buffer { buffer.new ≡ leaving (making self.now.code self.now.parameters.now (length buffer.old)) buffer.old }
-        ensures opens { IfOk result (λ n. OpensAs self.now.code self.now.parameters.now (take n buffer.new)) }
+        ensures answer { answer_of result ≡ answering (making (code_of self.now.command) self.now.parameters.now (length buffer.old)) }
+        ensures buffer { buffer.new ≡ leaving (making (code_of self.now.command) self.now.parameters.now (length buffer.old)) buffer.old }
+        ensures opens { IfOk result (λ n. OpensAs (code_of self.now.command) self.now.parameters.now (take n buffer.new)) }
     {
         if buffer.len() < self.parameters.len() + 3 {
             return Err(Refusal::Buffer);
         }
         let mut writer = Writer::new(buffer);
-        writer.put(&[self.code])?;
+        writer.put(&[u8::from(self.command)])?;
         writer.put(self.parameters)?;
         writer.seal()?;
         Ok(writer.filled())

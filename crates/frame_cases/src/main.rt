@@ -61,6 +61,7 @@ fn answer_make(rt: &HostRuntime, code: &str, text: &str, room: &str) -> anyhow::
 
 fn answer(rt: &HostRuntime, line: &str) -> anyhow::Result<()> {
     let mut words = line.split_whitespace();
+    // A match and no table of closures, since each verb has words of its own.
     match (words.next(), words.next(), words.next(), words.next()) {
         (Some("check"), Some(text), None, _) => {
             let message = read_bytes(rt.alloc(), text)?;

@@ -8,15 +8,12 @@ use frame::opening::{Frame, open};
 use protocol::command::{COMMANDS, Command, Entry, PARAMETERS};
 use spelling::hexadecimal::Hex;
 use spelling::sample::{OWN, to_tag};
-use spelling::sent::framed;
+use spelling::sent::{LONGEST_FRAME, framed};
 use std::alloc::{AllocError, Global};
 use std::fmt;
 
 // A frame without parameters.
 const BARE: usize = 3;
-
-// The longest frame, for the columns.
-const LONGEST: usize = 17;
 
 // A line of the table.
 #[derive(Drop)]
@@ -34,7 +31,7 @@ impl fmt::Display for Row<'_> {
         if length == BARE {
             return Ok(());
         }
-        let missing = LONGEST.saturating_sub(length) * 3;
+        let missing = LONGEST_FRAME.saturating_sub(length) * 3;
         write!(f, "{:missing$}", "")?;
         for parameter in PARAMETERS {
             if let Some(span) = self.frame.request().span(parameter) {

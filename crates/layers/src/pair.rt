@@ -11,8 +11,8 @@ use frame::opening::Frame;
 use protocol::refusal::Refusal;
 use record::Tag;
 
-// The places of the left field come first. A pair above 64 places, which is never made, means its left alone: if the
-// type ruled it out, whoever names the type would have to show that its sides are fields.
+// The places of the left field come first. A pair above 64 places, which is never made, means its left alone: by the
+// rule that no type asks more than it did, since a type that ruled this out would ask that its sides be fields.
 #[derive(Drop)]
 pub struct Pair<L, R> {
     left: L,

@@ -13,7 +13,6 @@ ghost use Rattle.panel.specs.Shown.{Small, offset_in, length_in, shown_of, answe
 
 use crc::check_value;
 use frame::opening::{Frame, open};
-use frame::request::Request;
 use protocol::command::Parameter;
 use protocol::refusal::Refusal;
 
@@ -37,12 +36,14 @@ pub fn nolbashi_open(frame: &[u8], shown: &mut [u8]) -> u8
     show(frame, shown).err().map_or(0, u8::from)
 }
 
-// Shows what a frame holds, or tells why not.
+// Shows what a frame holds, or tells why not. Frame and buffer are two parameters as in C.
 fn show(frame: &[u8], shown: &mut [u8]) -> Result<(), Refusal>
     ensures answer { MatchResult result (λ _. answering (opening frame.now) (length shown.old) ≡ 0) (λ e. answering (opening frame.now) (length shown.old) ≡ number_of e) }
     ensures shown { shown.new ≡ leaving (opening frame.now) shown.old }
 {
-    let opened = Shown::of(&open(frame)?);
+    let opened = Shown {
+        frame: open(frame)?,
+    };
     if shown.len() < SHOWN {
         return Err(Refusal::Buffer);
     }
@@ -50,29 +51,18 @@ fn show(frame: &[u8], shown: &mut [u8]) -> Result<(), Refusal>
     Ok(())
 }
 
-// What is shown of a frame: its code, and where its parameters lie, for which two bytes each are enough.
+// A frame whose parameters can be shown, since two bytes are enough for where each lies.
 #[derive(Clone, Copy)]
 struct Shown<'a> {
-    code: u8,
-    request: Request<'a>,
-    ghost small: { Small (parts_of request) } by { Prim.hlevel props },
+    frame: Frame<'a>,
+    ghost small: { Small (parts_of frame.request) } by { Prim.hlevel props },
 }
 
-impl<'a> Shown<'a> {
-    fn of(frame: &Frame<'a>) -> Shown<'a>
-        requires { Small (parts_of frame.now.request) }
-        ensures code { result.code ≡ frame.now.code }
-        ensures request { result.request ≡ frame.now.request }
-    {
-        Shown {
-            code: frame.code(),
-            request: frame.request(),
-        }
-    }
-
-    // The code, then each parameter's offset and length: the bytes that the header promises, one by one.
+impl Shown<'_> {
+    // The code, then each parameter's offset and length. They are written out, since so the row is proved with nothing
+    // to say of a loop, and reads as the header does.
     fn row(&self) -> [u8; SHOWN]
-        ensures { result ≡ shown_of self.now.code (parts_of self.now.request) }
+        ensures { result ≡ shown_of self.now.frame.code (parts_of self.now.frame.request) }
     {
         let (serial, serial_length) = self.pair(Parameter::Serial);
         let (address, address_length) = self.pair(Parameter::Address);
@@ -82,7 +72,7 @@ impl<'a> Shown<'a> {
         let (length, length_length) = self.pair(Parameter::Length);
         let (ignored, ignored_length) = self.pair(Parameter::Ignored);
         [
-            self.code,
+            self.frame.code(),
             serial,
             serial_length,
             address,
@@ -100,12 +90,12 @@ impl<'a> Shown<'a> {
         ]
     }
 
-    // Offset and length of a parameter, and zeros where the frame has none.
+    // Offset and length of a parameter, and zeros where the frame has none, as the header has it.
     fn pair(&self, parameter: Parameter) -> (u8, u8)
-        ensures offset { result.0 ≡ offset_in (span_of parameter (parts_of self.now.request)) }
-        ensures length { result.1 ≡ length_in (span_of parameter (parts_of self.now.request)) }
+        ensures offset { result.0 ≡ offset_in (span_of parameter (parts_of self.now.frame.request)) }
+        ensures length { result.1 ≡ length_in (span_of parameter (parts_of self.now.frame.request)) }
     {
-        match self.request.span(parameter) {
+        match self.frame.request().span(parameter) {
             Some(span) => (span.offset as u8, span.length as u8),
             None => (0, 0),
         }

@@ -21,5 +21,6 @@ pub extern "C" fn nolbashi_open(frame: &[u8], shown: &mut [u8]) -> u8
     ensures answer { result ≡ answering (opening frame.now) (length shown.old) }
     ensures shown { shown.new ≡ leaving (opening frame.now) shown.old }
 {
+    // A number, and a frame beside a buffer, since that is what C has.
     panel::nolbashi_open(frame, shown)
 }

@@ -1,5 +1,5 @@
 -- Laws of the commands: looking a code up, and how long a frame can be. Assumes nothing.
-use Rattle.std.proofs.Common.{◌≡◌, ℕ, ◌≤◌, Bool, true, false, cond, eqb, ◌==◌, List, [], ◌∷◌, map, find, Some, None, Option, sym, refl, ap, ◌∙◌, arith, lit≤}
+use Rattle.std.proofs.Common.{◌≡◌, ℕ, ◌≤◌, Bool, true, false, cond, eqb, ◌==◌, List, [], ◌∷◌, map, Some, None, Option, sym, refl, ap, ◌∙◌, arith, lit≤}
 use Rattle.std.specs.Option.{option_map, ok_or}
 use Rattle.std.proofs.lemmas.Bool.{eqb-true}
 use Rattle.protocol.specs.declared.command.Command.{Command}
@@ -56,6 +56,24 @@ first_named_code code c (d ∷ ds) e = first_code code c d ds (first_named_code 
 pub named_code : (code : ℕ) (c : Command) → named code ≡ Some c → code_of c ≡ code
 unfolding named
 named_code code c e = first_named_code code c commands e
+
+-- A command is named by its code.
+pub named_self : (c : Command) → named (code_of c) ≡ Some c
+unfolding named
+named_self Select = refl
+named_self UnselectNe = refl
+named_self UnselectIdFlag = refl
+named_self UnselectNoidFlag = refl
+named_self Query = refl
+named_self Scroll = refl
+named_self Repeat = refl
+named_self Reset = refl
+named_self Read = refl
+named_self Verify = refl
+named_self Lock = refl
+named_self Qlock = refl
+named_self ReadFlexible = refl
+named_self Write = refl
 
 -- No frame is longer than WRITE's.
 pub longest : (c : Command) → length_of c ≤ 17

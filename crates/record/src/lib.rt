@@ -24,11 +24,11 @@ pub type Memory = [u8; SIZE];
 #[derive(Clone, Copy, PartialEq, Eq, Debug)]
 pub enum State {
     // Waits to be selected.
-    Ready,
+    Ready = 0,
     // Selected, and answers in its turn.
-    Singulation,
+    Singulation = 1,
     // Has been read or written by its serial number.
-    Inventoried,
+    Inventoried = 2,
 }
 
 // For how many frames more a tag knows that it was written or locked.

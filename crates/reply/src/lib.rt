@@ -81,7 +81,7 @@ fn put_memory(tag: &Tag, address: u8, count: usize, writer: &mut Writer<'_>) -> 
     requires { writer.old.filled + count ≤ length writer.old.buffer.now }
     ensures { Put (bytes_from tag.now.memory address count) writer.old writer.new (is_ok result) }
 {
-    // Address by address, since behind the memory there is no slice of the zeros that are read there.
+    // Address by address: the bytes that are there and the zeros behind them would be two puts, each with its bounds.
     for place in 0..count {
         writer.put(&[tag.byte(usize::from(address) + place)])?;
     }

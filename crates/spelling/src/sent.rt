@@ -10,7 +10,7 @@ use reply::Reply;
 use std::alloc::Global;
 
 // The longest frame.
-const LONGEST_FRAME: usize = 17;
+pub const LONGEST_FRAME: usize = 17;
 
 // The longest reply: 256 bytes of memory and their check value.
 const LONGEST_REPLY: usize = 258;
@@ -26,7 +26,8 @@ pub fn framed(heap: Global, code: u8, parameters: &[u8]) -> Result<Vec<u8>, Miss
     Ok(frame)
 }
 
-// A tag's reply, with its check value, or no bytes for none.
+// A tag's reply, with its check value, or no bytes for none. Like `framed`, but each says by its own call what its buffer
+// holds, which a closure's contract could only say again.
 pub fn replied(heap: Global, tag: &Tag, reply: Option<Reply>) -> Result<Vec<u8>, Misspelt>
     ensures ok { IfOk result (λ bytes. bytes.items ≡ reply_bytes tag.now reply) }
     ensures err { IfErr result (λ e. e ≡ Memory) }

@@ -40,16 +40,14 @@ pub fn read_bit(text: &str) -> Result<bool, Misspelt>
     }
 }
 
-// Not read as a number, since 01 and +1 are none of a mark's spellings.
+// By its one digit, since 01 and +1 are none of a mark's spellings.
 pub fn read_mark(text: &str) -> Result<WriteMark, Misspelt>
     ensures { Reads SpellsMark Mark text.now result }
 {
-    match text {
-        "0" => Ok(WriteMark::Clear),
-        "1" => Ok(WriteMark::Fading),
-        "2" => Ok(WriteMark::Fresh),
-        _ => Err(Misspelt::Mark),
-    }
+    let [digit @ b'0'..=b'9'] = text.as_bytes() else {
+        return Err(Misspelt::Mark);
+    };
+    WriteMark::try_from(*digit - b'0').or(Err(Misspelt::Mark))
 }
 
 // An address, or a dash for none.

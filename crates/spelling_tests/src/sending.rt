@@ -1,9 +1,8 @@
 // The bytes of frames and of replies.
 use protocol::refusal::Refusal;
-use record::{SIZE, Tag};
 use reply::Reply;
 use spelling::misspelt::Misspelt;
-use spelling::sample::{OWN, SERIAL};
+use spelling::sample::{OWN, sample_tag};
 use spelling::sent::{framed, replied};
 use std::test::Fail;
 
@@ -33,9 +32,7 @@ fn what_has_no_frame(rt: HostRuntime) {
 
 #[test]
 fn replies_are_written(rt: HostRuntime) -> Result<(), Fail> {
-    let mut memory = [0u8; SIZE];
-    memory[..SERIAL.len()].copy_from_slice(&SERIAL);
-    let tag = Tag::new(memory);
+    let tag = sample_tag();
     let serial = [0xef, 0x04, 0x02, 0x00, 0x00, 0x00, 0x00, 0x01, 0x3d, 0x9d];
     assert_eq!(rt;
         replied(rt.alloc(), &tag, Some(Reply::Serial))?.as_slice(),

@@ -1,4 +1,5 @@
-// What each command does to a tag that it concerns.
+// What each command does to a tag that it concerns. Tag and coin, tag and address are a receiver and its argument: these
+// would be methods, could the crate of the tag's type know of frames.
 ghost use Rattle.std.specs.Prelude.{◌≡◌, ◌-◌, false, if◌then◌else◌, Some, None};
 ghost use Rattle.record.specs.declared.State.TheVariants.{Ready};
 ghost use Rattle.record.specs.Records.{is_write_ok, bytes_from, locked_at, in_state, flagging, counting_to, permitting};
@@ -109,11 +110,7 @@ fn is_writable(tag: &Tag, address: u8) -> bool
     ensures { result ≡ is_writable tag.now address }
 {
     let start = usize::from(address);
-    address % 4 == 0
-        && !(tag.is_locked(start)
-            || tag.is_locked(start + 1)
-            || tag.is_locked(start + 2)
-            || tag.is_locked(start + 3))
+    address % 4 == 0 && !(start..start + 4).any(|place| tag.is_locked(place))
 }
 
 // Locks a byte that is there and was permitted, and no other.

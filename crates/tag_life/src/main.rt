@@ -2,10 +2,10 @@
 #![tactic(auto)]
 
 use protocol::command::Command;
-use record::{SIZE, Tag};
+use record::Tag;
 use reply::Reply;
 use spelling::hexadecimal::Hex;
-use spelling::sample::{OWN, SERIAL, to_tag};
+use spelling::sample::{OWN, sample_tag, to_tag};
 use spelling::sent::{framed, replied};
 use tag::hear;
 
@@ -122,11 +122,9 @@ impl Player<'_> {
 }
 
 fn run(rt: &HostRuntime) -> anyhow::Result<()> {
-    let mut memory = [0u8; SIZE];
-    memory[..SERIAL.len()].copy_from_slice(&SERIAL);
     let mut player = Player {
         rt,
-        tag: Tag::new(memory),
+        tag: sample_tag(),
     };
     println!(rt;
         "sent                                                                    reply                          state        flag  counter  mark"

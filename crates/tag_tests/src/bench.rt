@@ -116,7 +116,8 @@ impl<'a, R: Abort> Trial<'a, R> {
         Ok(())
     }
 
-    // The same with a frame that is made for it.
+    // The same with a frame that is made for it. Here and below a call and what comes of it are arguments side by side: a
+    // type for both would be written out in every line of every test.
     pub(crate) fn send(
         &mut self,
         code: u8,
@@ -161,7 +162,8 @@ impl<'a, R: Abort> Trial<'a, R> {
     }
 }
 
-// The bytes that were written at the front of a buffer with room for the longest reply.
+// The bytes that were written at the front of a buffer with room for the longest reply. No `Vec`, so that these tests
+// need nothing but what they test; the length is held to the buffer by the type.
 #[derive(Drop)]
 struct Filled {
     buffer: [u8; 258],

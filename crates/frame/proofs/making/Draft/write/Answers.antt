@@ -1,5 +1,7 @@
-use Rattle.std.proofs.Common.{◌≡◌, ℕ, List, [], ◌∷◌, ◌++◌, length, drop, sym, ap, ◌∙◌, arith, rules}
+use Rattle.std.proofs.Common.{◌≡◌, ℕ, List, [], ◌∷◌, ◌++◌, length, drop, sym, ap, ◌∙◌, subst, arith, rules}
 use Rattle.crc.specs.Check.{sealed}
+use Rattle.protocol.specs.Commands.{code_of}
+use Rattle.protocol.proofs.Lookups.{named_self}
 use Rattle.protocol.specs.Refusals.{told}
 use Rattle.frame.specs.Makings.{unmade, made, making, answering}
 use Rattle.frame.proofs.Makes.{no_room, makes}
@@ -10,8 +12,9 @@ use Rattle.frame.proofs.making.Draft.write.Goals as goal
 pub returns-then-buffer-self : goal.returns-then-buffer-self
 returns-then-buffer-self c =
     let d = c.args.self.now in
-    let none : making d.code d.parameters.now (length c.args.buffer.now) ≡ unmade 5 =
-    no_room d.code d.parameters.now (length c.args.buffer.now) d.command d.named d.whole (omega arith) in
+    let code : ℕ = code_of d.command in
+    let none : making code d.parameters.now (length c.args.buffer.now) ≡ unmade 5 =
+    no_room code d.parameters.now (length c.args.buffer.now) d.command (named_self d.command) d.whole (omega arith) in
     record { answer = rw none (search rules); buffer = rw none (search rules); opens = tt }
 
 pub returns : goal.returns
@@ -19,17 +22,19 @@ returns c =
     let d = c.args.self.now in
     let b : List ℕ = c.args.buffer.now in
     let ps : List ℕ = d.parameters.now in
-    let code : ℕ = d.code in
+    let code : ℕ = code_of d.command in
     let n = c.new-writer.ensures in
     let h0 : Holds c.new-writer.result b [] = record { bytes = n.buffer; count = n.filled; over = n.register } in
-    let h1 = holds_more c.new-writer.result c.put.new.self b [] (code ∷ []) h0 c.in_ok-put.ensures.put in
+    let h1 : Holds c.put.new.self b (code ∷ []) =
+    subst (λ (x : ℕ). Holds c.put.new.self b (x ∷ [])) c.from.ensures
+    (holds_more c.new-writer.result c.put.new.self b [] (c.from.result ∷ []) h0 c.in_ok-put.ensures.put) in
     let h2 = holds_more c.put.new.self c.put-2.new.self b (code ∷ []) ps h1 c.in_ok-put-2.ensures.put in
     let h3 = holds-sealed c.put-2.new.self c.seal.new.self b (code ∷ ps) h2 c.in_ok-seal.ensures.put in
     let final : c.seal.new.self.buffer.now ≡ sealed (code ∷ ps) ++ drop (length (sealed (code ∷ ps))) b = h3.bytes in
     let count : c.filled.result ≡ length (sealed (code ∷ ps)) = c.filled.ensures ∙ h3.count in
-    let all : making code ps (length b) ≡ made (sealed (code ∷ ps)) = makes code ps (length b) d.command d.named d.whole (omega arith) in
+    let all : making code ps (length b) ≡ made (sealed (code ∷ ps)) = makes code ps (length b) d.command (named_self d.command) d.whole (omega arith) in
     record {
       answer = ap told count ∙ sym (ap answering all);
       buffer = rw all (search rules);
-      opens = opens_at code ps _ c.filled.result (drop (length (sealed (code ∷ ps))) b) (search rules) count (opens_back code ps d.command d.named d.whole);
+      opens = opens_at code ps _ c.filled.result (drop (length (sealed (code ∷ ps))) b) (search rules) count (opens_back code ps d.command (named_self d.command) d.whole);
     }
