@@ -1,5 +1,5 @@
 -- Walking a table: what is done so far and what is left give the whole. Assumes nothing.
-use Rattle.std.proofs.Common.{◌≡◌, ℕ, zero, suc, ◌+◌, ◌/◌, ◌<◌, ◌≤◌, false, List, [], ◌∷◌, ◌++◌, map, length, get_or, take, drop, set, Some, None, Option, sym, refl, ap, ◌∙◌, subst, ap₂, arith}
+use Rattle.std.proofs.Common.{◌≡◌, ℕ, zero, suc, ◌+◌, ◌/◌, ◌<◌, false, List, [], ◌∷◌, ◌++◌, length, get_or, take, drop, set, Some, None, Option, sym, refl, ap, ◌∙◌, subst, ap₂, arith}
 use Rattle.std.proofs.lemmas.List.{append_assoc, append-nil, length-set, take_more_set, drop_more, drop-set-lt, drop_all, take_all, get_or-set_same}
 use Rattle.std.proofs.lemmas.Option.{slice_get-get_or}
 use Rattle.std.specs.List.{slice_get}
@@ -19,20 +19,6 @@ use Rattle.field.specs.Sends.{first_coin, stepped_all, on_air}
 -- What a proof reads where a table has no tag.
 abbrev pub blank : Tag
 blank = record { memory = []; locks = []; state = Ready; identified = false; counter = 0; mark = Clear; permission = None }
-
--- A change of every element in its place, one more of them and at the end.
-pub changed_more : {X : Type 0} (f : X → X) (start xs : List X) (i : ℕ) (d x : X) → i < length xs → x ≡ f (get_or xs i d)
-    → take i xs ++ map f (drop i xs) ≡ map f start → take (i + 1) (set xs i x) ++ map f (drop (i + 1) (set xs i x)) ≡ map f start
-changed_more {X} f start xs i d x h e w =
-    ap₂ (λ (a : List X) (b : List X). a ++ map f b) (take_more_set xs i x h) (drop-set-lt (i + 1) xs i x (omega arith))
-    ∙ append_assoc (take i xs) (x ∷ []) (map f (drop (i + 1) xs))
-    ∙ ap (λ (y : X). take i xs ++ (y ∷ map f (drop (i + 1) xs))) e
-    ∙ sym (ap (λ (b : List X). take i xs ++ map f b) (drop_more xs i d h))
-    ∙ w
-
-pub changed_all : {X : Type 0} (f : X → X) (start xs : List X) (i : ℕ) → length xs ≤ i → take i xs ++ map f (drop i xs) ≡ map f start → xs ≡ map f start
-changed_all {X} f start xs i h w =
-    sym (append-nil xs) ∙ sym (ap₂ (λ (a : List X) (b : List X). a ++ map f b) (take_all i xs h) (drop_all i xs h)) ∙ w
 
 -- The replies that a sound stands for, where every lone one is heard as lone.
 abbrev pub sounds_like : Sound → List Tag → Air

@@ -1,6 +1,6 @@
-use Rattle.std.proofs.Common.{◌≡◌, ℕ, ◌*◌, ◌<◌, Bool, true, false, cond, sym, refl, ap, ◌∙◌, arith}
+use Rattle.std.proofs.Common.{◌≡◌, ℕ, ◌*◌, Bool, true, false, cond, sym, refl, ap, ◌∙◌}
 use mir.Val.{bool_byte}
-use lib.Bits.{bit_xor, xor_lt}
+use lib.Bits.{bit_xor}
 use Rattle.crc.specs.Check.{bit_taken, moved}
 use Rattle.crc.proofs.Moves.{moved_low, moved_high}
 use Rattle.crc.proofs.after_bit.Goals as goal
@@ -9,19 +9,10 @@ number : (b : Bool) → bool_byte b ≡ cond b 1 0
 number true = refl
 number false = refl
 
-small : (b : Bool) → bool_byte b < 2
-small true = omega arith
-small false = omega arith
-
 -- The bit that met the register, as a number.
 known : (r n : ℕ) (b : Bool) → n ≡ bool_byte b → moved (bit_xor r (n * 0x8000)) ≡ bit_taken r (cond b 1 0)
 unfolding bit_taken
 known r n b e = ap (λ (y : ℕ). moved (bit_xor r (y * 0x8000))) (e ∙ number b)
-
-pub overflow_mul-result-else-met-lt-TOP : goal.overflow_mul-result-else-met-lt-TOP
-overflow_mul-result-else-met-lt-TOP c =
-    let b : c.from.result < 2 = omega (arith, small c.args.bit, c.from.ensures) in
-    record { fits = omega (arith, xor_lt 16 c.args.register (c.from.result * 32768) (omega arith) (omega arith)) }
 
 pub returns-then-met-lt-TOP : goal.returns-then-met-lt-TOP
 returns-then-met-lt-TOP c =
