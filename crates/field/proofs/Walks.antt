@@ -1,14 +1,12 @@
 -- Laws of what a send and a gap do to a list of tags. Assumes nothing.
-use Rattle.std.proofs.Common.{◌≡◌, ℕ, zero, suc, ◌/◌, ◌%◌, ◌^◌, eqb, List, [], ◌∷◌, map, length, Some, sym, refl, ap, ◌∙◌, div-one}
+use Rattle.std.proofs.Common.{◌≡◌, ℕ, zero, suc, ◌/◌, ◌%◌, ◌^◌, eqb, List, [], ◌∷◌, length, Some, sym, refl, ap, ◌∙◌, div-one}
 use native.Mathlib.Nat.{div-div-eq-div-mul, pow-succ'}
-use Rattle.std.proofs.lemmas.List.{length-map}
 use Rattle.std.specs.Option.{option_map}
 use Rattle.std.specs.List.{slice_get}
 use Rattle.frame.specs.Openings.{Opening}
 use Rattle.record.specs.declared.Tag.{Tag}
-use Rattle.record.specs.Gaps.{gapped}
 use Rattle.tag.specs.Steps.{stepped}
-use Rattle.field.specs.Sends.{coin_at, stepped_all, gapped_all, InPlace}
+use Rattle.field.specs.Sends.{coin_at, stepped_all, InPlace}
 
 -- One place more is one halving more.
 pub halved : (row n : ℕ) → row / 2 / 2 ^ n ≡ row / 2 ^ suc n
@@ -30,11 +28,3 @@ nth-stepped frame row (t ∷ ts) (suc place) =
 
 pub stepped_in_place : (frame : Opening) (row : ℕ) (tags : List Tag) → InPlace (λ place. stepped frame (coin_at row place)) tags (stepped_all frame row tags)
 stepped_in_place frame row tags = record { places = length-stepped frame row tags; each = nth-stepped frame row tags }
-
-nth-map : {X Y : Type 0} (f : X → Y) (xs : List X) (i : ℕ) → slice_get (map f xs) i ≡ option_map f (slice_get xs i)
-nth-map f [] i = refl
-nth-map f (x ∷ xs) zero = refl
-nth-map f (x ∷ xs) (suc i) = nth-map f xs i
-
-pub gapped_in_place : (us : ℕ) (tags : List Tag) → InPlace (λ _. gapped us) tags (gapped_all us tags)
-gapped_in_place us tags = record { places = length-map tags (gapped us); each = nth-map (gapped us) tags }

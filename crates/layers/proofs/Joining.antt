@@ -1,7 +1,7 @@
 -- Two lists of tags as one: what a send does to both together is what it does to each. Assumes nothing.
-use Rattle.std.proofs.Common.{◌≡◌, ℕ, zero, suc, ◌+◌, ◌-◌, ◌/◌, ◌<◌, ◌≤◌, Bool, true, false, cond, leb, List, [], ◌∷◌, ◌++◌, map, length, MatchBool, sym, refl, ap, ◌∙◌, subst, ap₂, div-one, arith, le-leb}
+use Rattle.std.proofs.Common.{◌≡◌, ℕ, zero, suc, ◌+◌, ◌/◌, ◌<◌, ◌≤◌, Bool, true, false, cond, List, [], ◌∷◌, ◌++◌, length, MatchBool, sym, refl, ap, ◌∙◌, subst, ap₂, div-one, arith, le-leb}
 use borrow.Author.Tests.{lt-leb}
-use Rattle.std.proofs.lemmas.List.{length-map, length-append, map-append}
+use Rattle.std.proofs.lemmas.List.{length-append, map-append}
 use Rattle.std.proofs.lemmas.Bool.{true≢false}
 use Rattle.std.specs.List.{slice_get}
 use Rattle.frame.specs.Openings.{Opening, opening}
@@ -54,15 +54,6 @@ paired_both left right h = rw (le-leb (length left + length right) 64 h) refl
 
 pub paired_left : (left right : List Tag) → 64 < length left + length right → paired left right ≡ left
 paired_left left right h = rw (lt-leb (length left + length right) 64 h) refl
-
-map_when : (f : Tag → Tag) (b : Bool) (left right : List Tag) → cond b (map f left ++ map f right) (map f left) ≡ map f (cond b (left ++ right) left)
-map_when f true left right = sym (map-append f left right)
-map_when f false left right = refl
-
-pub paired-map : (f : Tag → Tag) (left right : List Tag) → paired (map f left) (map f right) ≡ map f (paired left right)
-paired-map f left right =
-    ap₂ (λ (m : ℕ) (n : ℕ). cond (leb (m + n) 64) (map f left ++ map f right) (map f left)) (length-map left f) (length-map right f)
-    ∙ map_when f (fits left right) left right
 
 pub nth_left : {X : Type 0} (left right : List X) (i : ℕ) → i < length left → slice_get (left ++ right) i ≡ slice_get left i
 nth_left [] right i h = absurd (omega arith)
@@ -133,11 +124,6 @@ front_when false left right i h = refl
 
 pub nth-front : (left right : List Tag) (i : ℕ) → i < length left → slice_get left i ≡ slice_get (paired left right) i
 nth-front left right i h = sym (front_when (fits left right) left right i h)
-
-pub nth-back : (left right : List Tag) (i : ℕ) → length left + length right ≤ 64 → length left ≤ i → slice_get right (i - length left) ≡ slice_get (paired left right) i
-nth-back left right i few h =
-    let e : length left + (i - length left) ≡ i = omega arith in
-    sym (nth_right left right (i - length left)) ∙ ap (slice_get (left ++ right)) e ∙ ap (λ (ts : List Tag). slice_get ts i) (sym (paired_both left right few))
 
 -- A pair's own promise, in the two cases of whether it is one.
 pub when-fits : (b : Bool) (P Q : Type 0) → b ≡ true → P → MatchBool b P Q

@@ -7,6 +7,3 @@ loop-place-init c = search (rules, stored_none)
 
 pub loop-place-preserved : goal.loop-place-preserved
 loop-place-preserved c = search (rules, stored_more)
-
-pub returns : goal.returns
-returns c = search rules

@@ -1,8 +1,8 @@
-use Rattle.std.proofs.Common.{◌≡◌, ℕ, ◌-◌, List, sym, ap, ◌∙◌, arith}
+use Rattle.std.proofs.Common.{◌≡◌, List, sym, ap, ◌∙◌, arith}
 use Rattle.std.specs.List.{slice_get}
 use Rattle.record.specs.declared.Tag.{Tag}
 use Rattle.layers.specs.Pairs.{paired}
-use Rattle.layers.proofs.Joining.{paired_left, nth-front, nth-back}
+use Rattle.layers.proofs.Joining.{paired_left, nth-front}
 use Rattle.layers.proofs.pair.PairField.tag.Goals as goal
 use Rattle.layers.proofs.pair.PairField.tag.Goals.{then-place-left-via-then-place-left, then-place-left-via-else-place-left+then-left-places-gt-PLACES}
 
@@ -17,11 +17,3 @@ returns-then-place-left g c =
           (sym (paired_left left right (omega (arith, c.places-left.ensures, w.places.ensures, w.if-left-places-gt-PLACES.true))))
     ] in
     c.tag.ensures ∙ here
-
-pub returns : goal.returns
-returns g c =
-    let left : List Tag = g.L.Field.tags c.args.self.now.left in
-    let right : List Tag = g.R.Field.tags c.args.self.now.right in
-    c.tag-2.ensures ∙ ap (λ (n : ℕ). slice_get right (c.args.place - n)) c.places-left.ensures
-    ∙ nth-back left right c.args.place (omega (arith, c.places-left.ensures, c.places.ensures, c.if-left-places-gt-PLACES.false))
-    (omega (arith, c.places-left.ensures, c.if-place-left.false))
