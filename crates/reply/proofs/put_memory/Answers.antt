@@ -1,4 +1,4 @@
-use Rattle.std.proofs.Common.{◌≡◌, ℕ, ◌+◌, true, List, [], ◌∷◌, ◌++◌, length, get_or, sym, ap, ◌∙◌, subst, arith, rules}
+use Rattle.std.proofs.Common.{◌≡◌, ℕ, ◌+◌, true, List, [], ◌∷◌, ◌++◌, length, get_or, sym, ap, ◌∙◌, subst, arith}
 use borrow.Author.Tests.{false-leb}
 use Rattle.frame.specs.Writing.{Put}
 use Rattle.frame.proofs.Writes.{put_none, put_more, put_room}
@@ -21,12 +21,6 @@ loop-place-preserved c =
     c.byte.ensures ∙ ap (λ (x : ℕ). get_or memory (x + place) 0) c.from.ensures in
     subst (λ (xs : List ℕ). Put xs c.args.writer.now c.put.new.self true)
     (ap (λ (x : ℕ). bytes_from memory a place ++ x ∷ []) read ∙ sym (bytes_from_more memory a place)) both
-
-pub returns : goal.returns
-returns c =
-    let all : c.loop-place.place ≡ c.args.count = omega arith in
-    subst (λ (n : ℕ). Put (bytes_from c.args.tag.now.memory c.args.address n) c.args.writer.now c.loop-place.writer true) all
-    c.loop-place.invariant
 
 pub returns-in_err-put : goal.returns-in_err-put
 returns-in_err-put c =
