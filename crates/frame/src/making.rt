@@ -10,6 +10,7 @@ use protocol::command::{Command, Entry};
 use protocol::refusal::Refusal;
 
 // Makes the frame of a code with its parameters, and tells its length. It opens as that code with those parameters.
+// Callers give the two as they have them, which may be no frame's; a `Draft` is made of those that are.
 #[tactic(auto, using(crate::proofs::Limits::bare_frames))]
 pub fn make(code: u8, parameters: &[u8], buffer: &mut [u8]) -> Result<usize, Refusal>
     ensures answer { answer_of result ≡ answering (making code parameters.now (length buffer.old)) }

@@ -164,6 +164,7 @@ impl<'a> Request<'a> {
         let [target @ .., mask, _, _, _, _] = parameters else {
             unreachable()
         };
+        // Again from the front: one pattern has one part of any length.
         let [_, _, _, _, _, _, _, _, _, _, bytes @ ..] = parameters else {
             unreachable()
         };

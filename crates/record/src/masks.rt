@@ -1,4 +1,5 @@
-// Masks, and what they select of the bytes from an address on.
+// Masks, and what they select of the bytes from an address on. The two public calls take address, mask and bytes one by
+// one, as they always did; inside the three are one struct.
 ghost use Rattle.std.specs.Prelude.{◌≡◌, ◌+◌, slice_index, slice_set};
 ghost use Rattle.record.specs.Masks.{selects, agrees_at, matches, stored_at, stored};
 ghost use Rattle.record.specs.Records.{remembering};

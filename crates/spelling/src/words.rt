@@ -23,10 +23,7 @@ pub fn word(next: Option<&str>) -> Result<&str, Misspelt>
 pub fn no_word(next: Option<&str>) -> Result<(), Misspelt>
     ensures { MatchOption next.entry (result ≡ Ok tt) (λ _. result ≡ Err Surplus) }
 {
-    match next {
-        Some(_) => Err(Misspelt::Surplus),
-        None => Ok(()),
-    }
+    next.map_or(Ok(()), |_| Err(Misspelt::Surplus))
 }
 
 // `parse` would read `true` and `false` instead.

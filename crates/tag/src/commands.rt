@@ -1,5 +1,5 @@
-// What each command does to a tag that it concerns. Tag and coin, tag and address are a receiver and its argument: these
-// would be methods, could the crate of the tag's type know of frames.
+// What each command does to a tag that it concerns. Tag and coin, tag and address are a receiver and its argument: methods
+// would have to stand in the crate of the tag's type, which knows nothing of replies.
 ghost use Rattle.std.specs.Prelude.{◌≡◌, ◌-◌, false, if◌then◌else◌, Some, None};
 ghost use Rattle.record.specs.declared.State.TheVariants.{Ready};
 ghost use Rattle.record.specs.Records.{is_write_ok, bytes_from, locked_at, in_state, flagging, counting_to, permitting};

@@ -1,4 +1,5 @@
-// What one tag of the chip SL3ICS31 does with a frame.
+// What one tag of the chip SL3ICS31 does with a frame. Tag, what was opened and coin are three parameters: the tag is the
+// receiver, one opening serves a crowd, and each tag has a coin of its own.
 #![tactic(auto)]
 
 ghost use Rattle.std.specs.Prelude.{◌≡◌, length};

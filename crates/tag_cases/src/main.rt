@@ -13,61 +13,74 @@ use reply::Reply;
 use spelling::hexadecimal::{read_array, read_byte, read_bytes};
 use spelling::sent::replied;
 use spelling::words::{no_word, read_bit, read_locks, read_mark, read_permission, word};
-use std::alloc::Global;
 use std::io::{BufRead, BufReader};
 use tag::step;
 
-// Does to the tag what a question says, and tells its reply if it gives one.
-fn put(heap: Global, tag: &mut Tag, question: &str) -> anyhow::Result<Option<Reply>> {
-    let (verb, rest) = question.split_once(' ').context("no question")?;
-    // A match and no table of closures, since each verb has words of its own.
-    match verb {
-        "new" => *tag = Tag::new(read_array::<SIZE>(rest)?),
-        "locks" => tag.locks = read_locks(rest)?,
-        "set" => set(tag, rest)?,
-        "step" => return send(heap, tag, rest),
-        "gap" => tag.pass(rest.parse::<u32>()?),
-        _ => bail!("no question"),
+// A tag that is asked, and where its answers are printed.
+#[derive(Drop)]
+struct Asked<'a> {
+    rt: &'a HostRuntime,
+    tag: Tag,
+}
+
+impl Asked<'_> {
+    fn answer(&mut self, question: &str) -> anyhow::Result<()> {
+        let before = self.tag;
+        let reply = self.put(question)?;
+        let bytes = replied(self.rt.alloc(), &self.tag, reply)?;
+        let answer = Answer {
+            before: &before,
+            after: &self.tag,
+            reply: bytes.as_slice(),
+        };
+        println!(self.rt; "{answer}")?;
+        Ok(())
     }
-    Ok(None)
-}
 
-fn set(tag: &mut Tag, rest: &str) -> anyhow::Result<()> {
-    let mut words = rest.split_whitespace();
-    tag.state = word(words.next())?.parse::<State>()?;
-    tag.identified = read_bit(word(words.next())?)?;
-    tag.counter = read_byte(word(words.next())?)?;
-    tag.mark = read_mark(word(words.next())?)?;
-    tag.permission = read_permission(word(words.next())?)?;
-    no_word(words.next())?;
-    Ok(())
-}
+    // Does to the tag what a question says, and tells its reply if it gives one.
+    fn put(&mut self, question: &str) -> anyhow::Result<Option<Reply>> {
+        let (verb, rest) = question.split_once(' ').context("no question")?;
+        // A match and no table of closures, since each verb has words of its own.
+        match verb {
+            "new" => self.tag = Tag::new(read_array::<SIZE>(rest)?),
+            "locks" => self.tag.locks = read_locks(rest)?,
+            "set" => self.set(rest)?,
+            "step" => return self.send(rest),
+            "gap" => self.tag.pass(rest.parse::<u32>()?),
+            _ => bail!("no question"),
+        }
+        Ok(None)
+    }
 
-fn send(heap: Global, tag: &mut Tag, rest: &str) -> anyhow::Result<Option<Reply>> {
-    let mut words = rest.split_whitespace();
-    let coin = read_bit(word(words.next())?)?;
-    let frame = read_bytes(heap, word(words.next())?)?;
-    no_word(words.next())?;
-    Ok(step(tag, &open(frame.as_slice()), coin))
-}
+    // The five words change a tag that is there, where those of a table of tags make one: a type for the five would be
+    // taken apart at once in both.
+    fn set(&mut self, rest: &str) -> anyhow::Result<()> {
+        let mut words = rest.split_whitespace();
+        self.tag.state = word(words.next())?.parse::<State>()?;
+        self.tag.identified = read_bit(word(words.next())?)?;
+        self.tag.counter = read_byte(word(words.next())?)?;
+        self.tag.mark = read_mark(word(words.next())?)?;
+        self.tag.permission = read_permission(word(words.next())?)?;
+        no_word(words.next())?;
+        Ok(())
+    }
 
-fn answer(rt: &HostRuntime, tag: &mut Tag, question: &str) -> anyhow::Result<()> {
-    let before = *tag;
-    let reply = put(rt.alloc(), tag, question)?;
-    let bytes = replied(rt.alloc(), tag, reply)?;
-    let answer = Answer {
-        before: &before,
-        after: tag,
-        reply: bytes.as_slice(),
-    };
-    println!(rt; "{answer}")?;
-    Ok(())
+    fn send(&mut self, rest: &str) -> anyhow::Result<Option<Reply>> {
+        let mut words = rest.split_whitespace();
+        let coin = read_bit(word(words.next())?)?;
+        let frame = read_bytes(self.rt.alloc(), word(words.next())?)?;
+        no_word(words.next())?;
+        Ok(step(&mut self.tag, &open(frame.as_slice()), coin))
+    }
 }
 
 fn run(rt: &HostRuntime) -> anyhow::Result<()> {
-    let mut tag = Tag::new([0; SIZE]);
+    let mut asked = Asked {
+        rt,
+        tag: Tag::new([0; SIZE]),
+    };
     for line in BufReader::new(rt.alloc(), rt.stdin())?.lines(rt.alloc()) {
-        answer(rt, &mut tag, line?.as_str())?;
+        asked.answer(line?.as_str())?;
     }
     Ok(())
 }
