@@ -6,7 +6,7 @@ ghost use Rattle.field.specs.Sends.{on_air};
 ghost use Rattle.bench.specs.Tables.{place_of};
 
 use crate::walk::{pass_all, step_all};
-use field::declined::{Declined, Misfit};
+use field::declined::Declined;
 use field::field::{Field, PLACES};
 use field::sound::Sound;
 use frame::opening::Frame;
@@ -35,7 +35,7 @@ impl<'a> Bench<'a> {
     {
         if table.len() > PLACES {
             return Err(Declined {
-                refusal: Misfit::Crowd,
+                refusal: Refusal::Crowd,
                 given: table,
             });
         }

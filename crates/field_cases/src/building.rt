@@ -3,10 +3,11 @@ use crate::nesting::{Leaf, Node};
 use anyhow::{Context, anyhow};
 use bench::bench::Bench;
 use bench::single::Single;
-use field::declined::{Declined, Misfit};
+use field::declined::Declined;
 use field::field::Field;
 use layers::pair::Pair;
 use layers::spoiler::Spoiler;
+use protocol::refusal::Refusal;
 use record::Tag;
 use spelling::words::word;
 use std::iter::Peekable;
@@ -18,7 +19,7 @@ use std::str::{FromStr, SplitWhitespace};
 #[derive(Drop)]
 pub(crate) enum Trouble {
     // A part of it was refused.
-    Refused(Misfit),
+    Refused(Refusal),
     // The words make no sense.
     Words(anyhow::Error),
 }

@@ -4,7 +4,7 @@ ghost use Rattle.field.specs.Declining.{declined_by};
 ghost use Rattle.field.specs.Sends.{row_behind};
 ghost use Rattle.layers.specs.Pairs.{fits, paired, paired_few, place_in, behind, Halves, Split};
 
-use field::declined::{Declined, Misfit};
+use field::declined::Declined;
 use field::field::{Field, PLACES};
 use field::sound::Sound;
 use frame::opening::Frame;
@@ -29,7 +29,7 @@ impl<L: Field, R: Field> Pair<L, R> {
     {
         if left.places() + right.places() > PLACES {
             return Err(Declined {
-                refusal: Misfit::Crowd,
+                refusal: Refusal::Crowd,
                 given: (left, right),
             });
         }

@@ -3,7 +3,7 @@ ghost use Rattle.std.specs.Prelude.{◌≡◌, ℕ, ◌+◌, ◌%◌, ◌<◌, f
 ghost use Rattle.field.specs.Declining.{declined_by};
 ghost use Rattle.layers.specs.Spoilers.{Spoils};
 
-use field::declined::{Declined, Misfit};
+use field::declined::Declined;
 use field::field::Field;
 use field::sound::Sound;
 use frame::opening::Frame;
@@ -30,7 +30,7 @@ impl<F> Spoiler<F> {
     {
         if period == 0 {
             return Err(Declined {
-                refusal: Misfit::Period,
+                refusal: Refusal::Period,
                 given: field,
             });
         }

@@ -19,6 +19,10 @@ pub enum Refusal {
     Length = 4,
     // A buffer that is too short.
     Buffer = 5,
+    // More than 64 places in a field.
+    Crowd = 6,
+    // A spoiler of each reply of no number.
+    Period = 11,
 }
 
 impl Refusal {
@@ -48,6 +52,8 @@ impl fmt::Display for Refusal {
             Refusal::Code => "code",
             Refusal::Length => "length",
             Refusal::Buffer => "buffer",
+            Refusal::Crowd => "crowd",
+            Refusal::Period => "period",
         })
     }
 }
