@@ -1,27 +1,43 @@
-// The tag that the programs show, and parameters for it.
+// The tags that the programs show, and parameters for them.
 ghost use Rattle.std.specs.Prelude.{◌≡◌, ◌++◌, IfOk};
 ghost use Rattle.record.specs.Records.{new_tag};
-ghost use Rattle.spelling.specs.Samples.{sample_serial, sample_memory};
+ghost use Rattle.spelling.specs.Samples.{sample_serial, sample_memory, numbered_serial, numbered_memory};
 
 use record::{SIZE, Tag};
 use std::alloc::{AllocError, Global};
 
-// Its serial number.
+// The serial number of the tag that is shown on its own.
 pub const SERIAL: [u8; 8] = [0xef, 0x04, 0x02, 0x00, 0x00, 0x00, 0x00, 0x01];
 
 // What selects all tags whose memory begins with EF 04.
 pub const OWN: [u8; 10] = [0x00, 0xc0, 0xef, 0x04, 0x00, 0x00, 0x00, 0x00, 0x00, 0x00];
 
-// The tag, new, with 00 in all other bytes.
-pub fn sample_tag() -> Tag
-    ensures { result ≡ new_tag sample_memory }
+// That of any other, by its last byte.
+pub fn numbered_serial(number: u8) -> [u8; 8]
+    ensures { result ≡ numbered_serial number }
+{
+    let mut serial = SERIAL;
+    serial[7] = number;
+    serial
+}
+
+// The tag with that serial number, new, with 00 in all other bytes.
+pub fn numbered_tag(number: u8) -> Tag
+    ensures { result ≡ new_tag (numbered_memory number) }
 {
     let mut memory = [0; SIZE];
-    memory[..SERIAL.len()].copy_from_slice(&SERIAL);
+    memory[..SERIAL.len()].copy_from_slice(&numbered_serial(number));
     Tag::new(memory)
 }
 
-// The serial number, and what stands behind it.
+// The tag that is shown on its own.
+pub fn sample_tag() -> Tag
+    ensures { result ≡ new_tag sample_memory }
+{
+    numbered_tag(SERIAL[7])
+}
+
+// Its serial number, and what stands behind it.
 pub fn to_tag(heap: Global, rest: &[u8]) -> Result<Vec<u8>, AllocError>
     ensures { IfOk result (λ bytes. bytes.items ≡ sample_serial ++ rest.now) }
 {
