@@ -1,0 +1,50 @@
+// What is sent.
+use anyhow::bail;
+use protocol::command::Command;
+use spelling::sample::numbered_serial;
+use spelling::sent::framed;
+use std::alloc::Global;
+use std::str::FromStr;
+
+#[derive(Clone, Copy)]
+pub(crate) enum Load {
+    // A QUERY, to which all reply every time.
+    Query,
+    // The READ of one tag after the other.
+    Read,
+}
+
+impl FromStr for Load {
+    type Err = anyhow::Error;
+
+    fn from_str(text: &str) -> anyhow::Result<Load> {
+        match text {
+            "query" => Ok(Load::Query),
+            "read" => Ok(Load::Read),
+            _ => bail!("query or read"),
+        }
+    }
+}
+
+impl Load {
+    // The frames, each of which has its turn.
+    pub(crate) fn frames(self, heap: Global) -> anyhow::Result<Vec<Vec<u8>>> {
+        let mut frames = Vec::new(heap);
+        match self {
+            Load::Query => frames.push(framed(heap, u8::from(Command::Query), &[])?)?,
+            Load::Read => {
+                for number in 0..64 {
+                    frames.push(read(heap, number)?)?;
+                }
+            }
+        }
+        Ok(frames)
+    }
+}
+
+// The READ at 00 of the tag of a number.
+fn read(heap: Global, number: u8) -> anyhow::Result<Vec<u8>> {
+    let mut parameters = [0; 9];
+    parameters[..8].copy_from_slice(&numbered_serial(number));
+    Ok(framed(heap, u8::from(Command::Read), &parameters)?)
+}
