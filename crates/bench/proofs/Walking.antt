@@ -52,6 +52,12 @@ sounds_before Silence table i t h = refl
 sounds_before (Lone place reply) table i t h = ap (λ o. one (spoken o reply)) (nth-set_before table i place t h)
 sounds_before Clash table i t h = refl
 
+-- A tag that does not reply adds nothing to a sound.
+pub beside_silence : (s : Sound) → blended s Silence ≡ s
+beside_silence Silence = refl
+beside_silence (Lone place reply) = refl
+beside_silence Clash = refl
+
 -- A sound with that of one tag more.
 blended_like : (s : Sound) (i : ℕ) (reply : Option Reply) (tags : List Tag) → sounds_like (blended s (sound_of i reply)) tags ≡ mixed (sounds_like s tags) (sounds_like (sound_of i reply) tags)
 blended_like Silence i reply tags = refl

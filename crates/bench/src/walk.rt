@@ -20,8 +20,9 @@ pub(crate) fn step_all(table: &mut [Tag], opened: &Result<Frame<'_>, Refusal>, r
     // The coins fall off the row one by one, as its definition has it; a shift by the place would need a bound.
     let mut coins = row;
     for (place, tag) in table.iter_mut().enumerate() {
-        let reply = step(tag, opened, coins % 2 == 1);
-        sound = sound.blend(Sound::of(place, reply));
+        if let Some(reply) = step(tag, opened, coins % 2 == 1) {
+            sound = sound.blend(Sound::Lone { place, reply });
+        }
         coins /= 2;
     }
     sound
