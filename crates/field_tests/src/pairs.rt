@@ -10,11 +10,6 @@ use std::test::Fail;
 // How many of 64 tags stand at the left.
 const SPLITS: [usize; 5] = [0, 1, 32, 63, 64];
 
-// Two fields as one. It is generic, since `map_err` gets no proof today at a pair of benches.
-fn pair_of<L: Field + Drop, R: Field + Drop>(left: L, right: R) -> Result<Pair<L, R>, Fail> {
-    Pair::new(left, right).map_err(|_| Fail::new("too many places"))
-}
-
 // A pair of benches over the two parts of a table.
 fn split(table: &mut [Tag; 64], places: usize) -> Result<Pair<Bench<'_>, Bench<'_>>, Fail> {
     let (left, right) = table
@@ -37,12 +32,12 @@ fn both_play(rt: &impl Abort, acts: &[Act], places: usize) -> Result<(), Fail> {
 fn turns(rt: &impl Abort, places: usize) -> Result<(), Fail> {
     for place in [0, 1, 31, 32, 62, 63u8] {
         let acts = [
-            (QUERY, ONES ^ (1 << place), lone(place)),
-            (QUERY, 0, lone(place)),
-            (QUERY, 1 << place, SILENCE),
-            (SCROLL, ONES, lone(place)),
-            (SCROLL, 0, lone(place)),
-            (SCROLL, 1, CLASH),
+            (Ask::Query, ONES ^ (1 << place), lone(place)),
+            (Ask::Query, 0, lone(place)),
+            (Ask::Query, 1 << place, SILENCE),
+            (Ask::Scroll, ONES, lone(place)),
+            (Ask::Scroll, 0, lone(place)),
+            (Ask::Scroll, 1, CLASH),
         ];
         both_play(rt, &acts, places)?;
     }

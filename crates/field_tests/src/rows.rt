@@ -15,7 +15,7 @@ fn counters_follow(rt: &impl Abort, table: &[Tag; 64], row: u64) {
 // Plays a QUERY to 64 tags in SINGULATION.
 fn queried(rt: &impl Abort, row: u64, heard: Heard) -> Result<(), Fail> {
     let mut table = crowd();
-    plays(rt, bench_over(&mut table)?, &[(QUERY, row, heard)])?;
+    plays(rt, bench_over(&mut table)?, &[(Ask::Query, row, heard)])?;
     counters_follow(rt, &table, row);
     Ok(())
 }
@@ -47,12 +47,12 @@ fn all_ones_leave_nobody(rt: HostRuntime) -> Result<(), Fail> {
 fn bits_behind_the_last_place_go_nowhere(rt: HostRuntime) -> Result<(), Fail> {
     let mut table = [tag_at(0), tag_at(1)];
     let acts = [
-        (QUERY, ONES ^ 3, CLASH),
-        (QUERY, ONES ^ 2, lone(1)),
-        (QUERY, 0, lone(1)),
-        (QUERY, 2, SILENCE),
+        (Ask::Query, ONES ^ 3, CLASH),
+        (Ask::Query, ONES ^ 2, lone(1)),
+        (Ask::Query, 0, lone(1)),
+        (Ask::Query, 2, SILENCE),
     ];
     plays(&rt, bench_over(&mut table)?, &acts)?;
-    let acts = [(QUERY, ONES ^ 1, lone(0)), (QUERY, 1, SILENCE)];
+    let acts = [(Ask::Query, ONES ^ 1, lone(0)), (Ask::Query, 1, SILENCE)];
     plays(&rt, Single::new(tag_at(0)), &acts)
 }

@@ -3,6 +3,8 @@ use bench::bench::Bench;
 use crc::check_value;
 use field::field::Field;
 use field::hearing::Hearing;
+use layers::pair::Pair;
+use layers::spoiler::Spoiler;
 use record::{SIZE, State, Tag};
 use std::array;
 use std::process::Abort;
@@ -11,15 +13,36 @@ use std::test::Fail;
 // The row in which every tag has a 1.
 pub(crate) const ONES: u64 = 0xffff_ffff_ffff_ffff;
 
-// The frames that are sent.
-pub(crate) const QUERY: [u8; 3] = [0x08, 0x9f, 0x07];
+// A frame that is sent.
+#[derive(Clone, Copy)]
+pub(crate) enum Ask {
+    // No bytes at all.
+    Nothing,
+    // The SELECT of all tags whose memory begins with EF 04.
+    Select,
+    Query,
+    Scroll,
+    Repeat,
+}
 
-pub(crate) const SCROLL: [u8; 3] = [0x09, 0x8f, 0x26];
+impl Ask {
+    pub(crate) fn bytes(self) -> &'static [u8] {
+        match self {
+            Ask::Nothing => &[],
+            Ask::Select => &[
+                0x00, 0x00, 0xc0, 0xef, 0x04, 0x00, 0x00, 0x00, 0x00, 0x00, 0x00, 0xa3, 0xa6,
+            ],
+            Ask::Query => &[0x08, 0x9f, 0x07],
+            Ask::Scroll => &[0x09, 0x8f, 0x26],
+            Ask::Repeat => &[0x15, 0x5c, 0x9b],
+        }
+    }
+}
 
 // What is heard of a frame, and what the buffer then begins with.
 #[derive(Clone, Copy)]
 pub(crate) struct Heard {
-    hearing: Hearing,
+    pub(crate) hearing: Hearing,
     front: [u8; 10],
 }
 
@@ -47,7 +70,7 @@ pub(crate) fn lone(place: u8) -> Heard {
 
 impl Heard {
     // What a buffer of 300 bytes A5 holds after it.
-    fn left(&self) -> [u8; 300] {
+    pub(crate) fn left(&self) -> [u8; 300] {
         let mut buffer = [0xa5; 300];
         buffer[..258].copy_from_slice(&[0; 258]);
         buffer[..10].copy_from_slice(&self.front);
@@ -56,10 +79,10 @@ impl Heard {
 }
 
 // A send: the frame, the row, and what is to be heard.
-pub(crate) type Act = ([u8; 3], u64, Heard);
+pub(crate) type Act = (Ask, u64, Heard);
 
 // The serial number of the tag that the tests put at a place.
-fn serial(place: u8) -> [u8; 8] {
+pub(crate) fn serial(place: u8) -> [u8; 8] {
     [0xef, 0x04, 0x02, 0x00, 0x00, 0x00, 0x00, place]
 }
 
@@ -85,8 +108,8 @@ pub(crate) fn plays<F: Field + Drop>(
     acts: &[Act],
 ) -> Result<(), Fail> {
     let mut buffer = [0xa5u8; 300];
-    for (frame, row, heard) in acts {
-        assert_eq!(rt; field.send(frame, *row, &mut buffer)?, heard.hearing);
+    for (ask, row, heard) in acts {
+        assert_eq!(rt; field.send(ask.bytes(), *row, &mut buffer)?, heard.hearing);
         assert!(rt; buffer == heard.left());
     }
     Ok(())
@@ -98,4 +121,17 @@ pub(crate) fn bench_over(table: &mut [Tag]) -> Result<Bench<'_>, Fail> {
     // Not by `map_err`: a closure that is handed a `&mut` slice back gets no proof today.
     bench.set_table(table).ok().ok_or("too long a table")?;
     Ok(bench)
+}
+
+// Two fields as one. It is generic, since `map_err` gets no proof today at a pair of benches; so is the next.
+pub(crate) fn pair_of<L: Field + Drop, R: Field + Drop>(
+    left: L,
+    right: R,
+) -> Result<Pair<L, R>, Fail> {
+    Pair::new(left, right).map_err(|_| Fail::new("too many places"))
+}
+
+// A spoiler of a period from 1 on.
+pub(crate) fn spoiler_of<F: Field + Drop>(field: F, period: u16) -> Result<Spoiler<F>, Fail> {
+    Spoiler::new(field, period).map_err(|_| Fail::new("a period of 0"))
 }
