@@ -12,13 +12,18 @@ use Rattle.reply.specs.Replies.{sounding, data_in}
 use Rattle.tag.specs.Steps.{stepped, replied}
 use Rattle.field.specs.declared.sound.Sound.{Sound}
 use Rattle.field.specs.declared.sound.Sound.TheVariants.{Silence, Lone, Clash}
-use Rattle.field.specs.Airs.{Air, silent, one, many, mixed, voice, plainly, hearing_of, sound_of, blended, spoken, Tells}
+use Rattle.field.specs.Airs.{Air, silent, one, many, mixed, voice, plainly, hearing_of, blended, spoken, Tells}
 use Rattle.field.proofs.Hearings.{mixed_assoc, mixed_silent}
 use Rattle.field.specs.Sends.{first_coin, stepped_all, on_air}
 
 -- What a proof reads where a table has no tag.
 abbrev pub blank : Tag
 blank = record { memory = []; locks = []; state = Ready; identified = false; counter = 0; mark = Clear; permission = None }
+
+-- The sound of one tag, by its place.
+abbrev pub sound_of : ℕ → Option Reply → Sound
+sound_of place None = Silence
+sound_of place (Some reply) = Lone place reply
 
 -- The replies that a sound stands for, where every lone one is heard as lone.
 abbrev pub sounds_like : Sound → List Tag → Air
@@ -37,9 +42,6 @@ pub record Walked (frame : Opening) (row : ℕ) (start table : List Tag) (place 
   pub tags : take place table ++ stepped_all frame coins (drop place table) ≡ stepped_all frame row start
   pub air : mixed (sounds_like sound table) (on_air frame coins (drop place table)) ≡ on_air frame row start
   pub before : Before place sound
-
-pub walked_none : (frame : Opening) (row : ℕ) (start : List Tag) → Walked frame row start start 0 row Silence
-walked_none frame row start = record { tags = refl; air = refl; before = tt }
 
 nth-set_before : {X : Type 0} (xs : List X) (i k : ℕ) (x : X) → k < i → slice_get (set xs i x) k ≡ slice_get xs k
 nth-set_before [] i k x h = refl
@@ -139,10 +141,3 @@ walked_all frame row start table i coins s h w =
       sound = subst (λ (a : Air). Tells s table a) air (like_tells s table (subst (λ (n : ℕ). Before n s) h w.before));
       plain = like_plain s table ∙ ap plainly air;
     }
-
--- A table of one tag.
-pub walked_one : (frame : Opening) (row : ℕ) (start t : Tag) (reply : Option Reply) → t ≡ stepped frame (first_coin row) start
-    → sounding (data_in t reply) ≡ replied frame (first_coin row) start → Whole frame row (start ∷ []) (t ∷ []) (sound_of 0 reply)
-walked_one frame row start t reply e said =
-    walked_all frame row (start ∷ []) (t ∷ []) 1 (row / 2) (sound_of 0 reply) refl
-    (walked_more frame row (start ∷ []) (start ∷ []) 0 row Silence blank t reply (omega arith) (walked_none frame row (start ∷ [])) e said)

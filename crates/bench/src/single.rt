@@ -5,13 +5,14 @@ ghost use Rattle.record.specs.declared.Tag.{Tag};
 ghost use Rattle.field.specs.Airs.{plainly};
 ghost use Rattle.field.specs.Sends.{on_air};
 
+use crate::walk::step_all;
 use field::field::Field;
 use field::sound::Sound;
 use frame::opening::Frame;
 use protocol::refusal::Refusal;
 use record::Tag;
 use std::marker::Model;
-use tag::step;
+use std::slice;
 
 #[derive(Clone, Copy)]
 pub struct Single {
@@ -66,7 +67,6 @@ impl Field for Single {
     }
 
     fn listen(&mut self, opened: &Result<Frame<'_>, Refusal>, row: u64) -> Sound {
-        let reply = step(&mut self.tag, opened, row % 2 == 1);
-        Sound::of(0, reply)
+        step_all(slice::from_mut(&mut self.tag), opened, row)
     }
 }

@@ -77,11 +77,6 @@ hearing_of sound.Silence = Silence
 hearing_of (sound.Lone place reply) = Lone
 hearing_of sound.Clash = Clash
 
--- The sound of one tag, by its place.
-abbrev pub sound_of : ℕ → Option Reply → Sound
-sound_of place None = sound.Silence
-sound_of place (Some reply) = sound.Lone place reply
-
 -- Two sounds together, heard as one.
 abbrev pub blended : Sound → Sound → Sound
 blended sound.Silence other = other

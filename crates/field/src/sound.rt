@@ -1,6 +1,6 @@
 // What comes from the tags of a field, before anyone writes it out.
 ghost use Rattle.std.specs.Prelude.{◌≡◌};
-ghost use Rattle.field.specs.Airs.{hearing_of, sound_of, blended};
+ghost use Rattle.field.specs.Airs.{hearing_of, blended};
 
 use crate::hearing::Hearing;
 use reply::Reply;
@@ -15,13 +15,6 @@ pub enum Sound {
 }
 
 impl Sound {
-    // What comes from the tag at a place.
-    pub fn of(place: usize, reply: Option<Reply>) -> Sound
-        ensures { result ≡ sound_of place reply }
-    {
-        reply.map_or(Sound::Silence, |reply| Sound::Lone { place, reply })
-    }
-
     pub fn hearing(self) -> Hearing
         ensures { result ≡ hearing_of self }
     {

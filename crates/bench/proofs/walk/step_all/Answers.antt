@@ -2,8 +2,8 @@ use Rattle.std.proofs.Common.{◌≡◌, ◌+◌, ◌/◌, set, Option, sym, ap,
 use Rattle.reply.specs.declared.Reply.{Reply}
 use Rattle.frame.specs.Openings.{Opening, seen}
 use Rattle.field.specs.declared.sound.Sound.{Sound}
-use Rattle.field.specs.Airs.{blended, sound_of}
-use Rattle.bench.proofs.Walking.{Walked, blank, beside_silence, walked_more, walked_all}
+use Rattle.field.specs.Airs.{blended}
+use Rattle.bench.proofs.Walking.{Walked, blank, sound_of, beside_silence, walked_more, walked_all}
 use Rattle.bench.proofs.walk.step_all.Goals as goal
 use Rattle.bench.proofs.walk.step_all.Goals.{in-Some, in_default}
 
