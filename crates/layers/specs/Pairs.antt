@@ -8,7 +8,7 @@ use Rattle.field.specs.declared.hearing.Hearing.{Hearing}
 use Rattle.field.specs.declared.hearing.Hearing.TheVariants.{Silence, Lone, Clash}
 use Rattle.field.specs.declared.sound.Sound.{Sound}
 use Rattle.field.specs.declared.sound.Sound.TheVariants as sound
-use Rattle.field.specs.Airs.{mixed}
+use Rattle.field.specs.Airs.{mixed, MayHear}
 use Rattle.field.specs.Sends.{row_behind, stepped_all, on_air, gapped_all, sent_to}
 
 -- Whether two fields are few enough tags for a pair.
@@ -40,12 +40,14 @@ behind places (sound.Lone place reply) = sound.Lone (places + place) reply
 behind places sound.Clash = sound.Clash
 
 -- What the sides of a pair do with a frame: each steps its own tags, the right ones with the coins behind the left's
--- places, and hears what its kind hears.
+-- places, and hears what its air allows and its kind promises.
 pub record Halves (frame : Opening) (row : ℕ) (left right left_new right_new : List Tag) (of_left of_right : Hearing → Type 0) (h : Hearing) : Type 0 where
   pub left_tags : left_new ≡ stepped_all frame row left
   pub right_tags : right_new ≡ stepped_all frame (row_behind (length left) row) right
   pub heard_left : Hearing
   pub heard_right : Hearing
+  pub left_may_be : MayHear (on_air frame row left) heard_left
+  pub right_may_be : MayHear (on_air frame (row_behind (length left) row) right) heard_right
   pub left_hears : of_left heard_left
   pub right_hears : of_right heard_right
   pub both : h ≡ together heard_left heard_right

@@ -2,6 +2,7 @@
 use Rattle.std.specs.Prelude.{◌≡◌, ℕ, ◌+◌, ◌%◌, ◌<◌, cond, ◌==◌}
 use Rattle.field.specs.declared.hearing.Hearing.{Hearing}
 use Rattle.field.specs.declared.hearing.Hearing.TheVariants.{Silence, Lone, Clash}
+use Rattle.field.specs.Airs.{Air, MayHear}
 
 -- How many lone replies a hearing is.
 abbrev pub lones : Hearing → ℕ
@@ -15,10 +16,11 @@ spoiled k n Silence = Silence
 spoiled k n Lone = cond (n % k == 0) Clash Lone
 spoiled k n Clash = Clash
 
--- What a spoiler does with a hearing from below. It keeps how many lone replies came since it last spoiled one, so n of
--- them since its making are n % k.
-pub record Spoils (k before after : ℕ) (below : Hearing → Type 0) (h : Hearing) : Type 0 where
+-- What a spoiler does with a hearing from below, which is one that the air there allows. It keeps how many lone replies
+-- came since it last spoiled one, so n of them since its making are n % k.
+pub record Spoils (k before after : ℕ) (air : Air) (below : Hearing → Type 0) (h : Hearing) : Type 0 where
   pub heard_below : Hearing
+  pub may_be : MayHear air heard_below
   pub below_hears : below heard_below
   pub counts : (n : ℕ) → 0 < k → before ≡ n % k → after ≡ (n + lones heard_below) % k
   pub hears : (n : ℕ) → 0 < k → before ≡ n % k → h ≡ spoiled k (n + lones heard_below) heard_below

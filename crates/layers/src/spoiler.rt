@@ -1,6 +1,7 @@
 // A field whose lone replies are spoiled now and then.
 ghost use Rattle.std.specs.Prelude.{◌≡◌, ℕ, ◌+◌, ◌%◌, ◌<◌, false, IfOk, IfErr, if◌then◌else◌, Some, None, nat_eq};
 ghost use Rattle.field.specs.Declining.{declined_by};
+ghost use Rattle.field.specs.Sends.{on_air};
 ghost use Rattle.layers.specs.Spoilers.{Spoils};
 
 use field::declined::Declined;
@@ -67,7 +68,7 @@ impl<F: Field> Field for Spoiler<F> {
 
     ghost faithful = { false };
 
-    ghost hears = { λ s frame row h t. Spoils s.period s.heard t.heard (λ a. F.Field.hears s.field frame row a t.field) h × (t.period ≡ s.period) };
+    ghost hears = { λ s frame row h t. Spoils s.period s.heard t.heard (on_air frame row (F.Field.tags s.field)) (λ a. F.Field.hears s.field frame row a t.field) h × (t.period ≡ s.period) };
 
     ghost waits = { λ s us t. F.Field.waits s.field us t.field × (t.heard ≡ s.heard) × (t.period ≡ s.period) };
 

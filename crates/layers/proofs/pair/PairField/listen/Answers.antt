@@ -4,8 +4,9 @@ use Rattle.std.proofs.lemmas.Bool.{and_parts}
 use Rattle.frame.specs.Openings.{Opening, seen}
 use Rattle.record.specs.declared.Tag.{Tag}
 use Rattle.field.specs.declared.sound.Sound.{Sound}
-use Rattle.field.specs.Airs.{plainly, hearing_of, blended, Tells}
+use Rattle.field.specs.Airs.{MayHear, plainly, hearing_of, blended, Tells}
 use Rattle.field.specs.Sends.{row_behind, stepped_all, on_air}
+use Rattle.field.proofs.Hearings.{may_hear}
 use Rattle.field.proofs.Walks.{length-stepped}
 use Rattle.layers.specs.Pairs.{fits, paired}
 use Rattle.layers.proofs.Joining.{paired_left, when-fits, when_crowded, right_after, both_tags, both_sound, both_plain, hearing_both}
@@ -62,6 +63,9 @@ returns g c =
             right_tags = right_after frame row row_after left right left_new right_new few shifted on_left on_right;
             heard_left = hearing_of s;
             heard_right = hearing_of o;
+            left_may_be = may_hear s left_new (on_air frame row left) c.listen-sound.ensures.sound;
+            right_may_be = subst (λ (k : ℕ). MayHear (on_air frame k right) (hearing_of o)) shifted
+                (may_hear o right_new (on_air frame row_after right) c.listen-other.ensures.sound);
             left_hears = c.listen-sound.ensures.kind;
             right_hears = subst (λ (k : ℕ). g.R.Field.hears c.args.self.now.right frame k (hearing_of o) c.listen-other.new.self) shifted c.listen-other.ensures.kind;
             both = both;
