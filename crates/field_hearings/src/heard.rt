@@ -17,7 +17,7 @@ pub(crate) struct Heard {
 impl fmt::Display for Heard {
     fn fmt<W: fmt::Write>(&self, f: &mut fmt::Formatter<W>) -> fmt::Result {
         match self.hearing {
-            Hearing::Lone => write!(f, "lone     {}", Hex::spaced(&self.reply)),
+            Hearing::Lone => write!(f, "{:<8} {}", self.hearing, Hex::spaced(&self.reply)),
             hearing => write!(f, "{hearing}"),
         }
     }

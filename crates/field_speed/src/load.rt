@@ -29,17 +29,15 @@ impl FromStr for Load {
 impl Load {
     // The frames, each of which has its turn.
     pub(crate) fn frames(self, heap: Global) -> anyhow::Result<Vec<Vec<u8>>> {
-        let mut frames = Vec::new(heap);
         match self {
-            Load::Query => frames.push(framed(heap, u8::from(Command::Query), &[])?)?,
-            Load::Read => {
-                for number in 0..64 {
-                    frames.push(read(heap, number)?)?;
-                }
-            }
+            Load::Query => Ok(vec![in heap; query(heap)?]?),
+            Load::Read => (0..64).map(|number| read(heap, number)).try_collect(heap),
         }
-        Ok(frames)
     }
+}
+
+fn query(heap: Global) -> anyhow::Result<Vec<u8>> {
+    Ok(framed(heap, u8::from(Command::Query), &[])?)
 }
 
 // The READ at 00 of the tag of a number.
