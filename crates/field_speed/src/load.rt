@@ -30,14 +30,10 @@ impl Load {
     // The frames, each of which has its turn.
     pub(crate) fn frames(self, heap: Global) -> anyhow::Result<Vec<Vec<u8>>> {
         match self {
-            Load::Query => Ok(vec![in heap; query(heap)?]?),
+            Load::Query => Ok(vec![in heap; framed(heap, u8::from(Command::Query), &[])?]?),
             Load::Read => (0..64).map(|number| read(heap, number)).try_collect(heap),
         }
     }
-}
-
-fn query(heap: Global) -> anyhow::Result<Vec<u8>> {
-    Ok(framed(heap, u8::from(Command::Query), &[])?)
 }
 
 // The READ at 00 of the tag of a number.
