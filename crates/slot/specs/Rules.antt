@@ -1,0 +1,202 @@
+-- The reader's rule: how a sweep goes on, command by command, over a list of tags. Assumes nothing.
+use Rattle.std.specs.Prelude.{◌≡◌, ℕ, zero, suc, ◌+◌, ◌-◌, ◌%◌, Bool, true, cond, List, [], ◌∷◌, ◌++◌, length, nat_le, nat_eq, slice_index}
+use Rattle.protocol.specs.declared.command.Command.{Command}
+use Rattle.protocol.specs.declared.command.Command.TheVariants.{Select, Query, Scroll, Repeat, Read}
+use Rattle.frame.specs.Openings.{Opening}
+use Rattle.record.specs.declared.Tag.{Tag}
+use Rattle.field.specs.declared.hearing.Hearing.{Hearing}
+use Rattle.field.specs.declared.hearing.Hearing.TheVariants.{Silence, Lone, Clash}
+use Rattle.field.specs.Airs.{Air, silent, MayHear, plainly}
+use Rattle.field.specs.Sends.{stepped_all, on_air}
+use Rattle.slot.specs.declared.row.SlotRow.{SlotRow}
+use Rattle.slot.specs.Commands.{select, query, scroll, again, read, serial_in}
+
+-- What a sweep is given: recorded rows of coins, a budget of commands, and how many rows its lists have room for.
+pub record Setting : Type 0 where
+  pub coins : List ℕ
+  pub budget : ℕ
+  pub slot_room : ℕ
+  pub serial_room : ℕ
+
+-- Where a sweep stands.
+pub data Phase : Type 0 where
+  -- nothing is sent yet
+  fresh : Phase
+  -- a silent slot is open, or a lone one has been read
+  in_silence : Phase
+  -- a lone slot is open, with the serial number that was heard
+  in_lone : List ℕ → Phase
+  in_clash : Phase
+  -- the serial number is listed, and its READ not yet heard as lone
+  in_reading : List ℕ → Phase
+  -- by the end's number: 0 whole, and 7 to 9 stopped
+  ended : ℕ → Phase
+
+-- A sweep so far, with the tags that it sweeps.
+pub record Play : Type 0 where
+  pub phase : Phase
+  -- how many groups wait: G
+  pub waiting : ℕ
+  -- the place of the row of coins to draw next
+  pub next : ℕ
+  pub commands : ℕ
+  -- how many of the commands were READs
+  pub reads : ℕ
+  pub slots : List SlotRow
+  pub serials : List (List ℕ)
+  pub tags : List Tag
+
+-- A sweep that begins.
+abbrev pub beginning : List Tag → Play
+beginning tags =
+    record { phase = fresh; waiting = 0; next = 0; commands = 0; reads = 0; slots = []; serials = []; tags = tags }
+
+-- What a reader does next.
+pub data Deed : Type 0 where
+  -- stops, by the stop's number
+  stops : ℕ → Deed
+  -- sends a command that opens a slot: which, what tags make of it, the row of coins that goes with it, G from now on,
+  -- and the place of the row to draw next
+  opens : Command → Opening → ℕ → ℕ → ℕ → Deed
+  -- lists a serial number
+  lists : List ℕ → Deed
+  -- sends READ
+  reads : List ℕ → Deed
+  -- sends the closing REPEAT
+  closes : Deed
+  -- has ended
+  rests : Deed
+
+-- The budget is looked at before every command, and the room for slots then before one that opens a slot.
+abbrev pub commanding : Setting → Play → Deed → Deed
+commanding set p deed = cond (nat_le set.budget p.commands) (stops 8) deed
+
+abbrev pub opening_slot : Setting → Play → Deed → Deed
+opening_slot set p deed = commanding set p (cond (nat_le set.slot_room (length p.slots)) (stops 9) deed)
+
+-- The row of coins at a place. The rows are drawn in turn, and behind the last comes the first.
+abbrev pub coins_at : List ℕ → ℕ → ℕ
+coins_at coins place = slice_index coins (place % length coins)
+
+abbrev pub place_behind : List ℕ → ℕ → ℕ
+place_behind coins place = place % length coins + 1
+
+abbrev pub deed_in : Setting → Play → Phase → Deed
+deed_in set p fresh = opening_slot set p (opens Select select 0 0 0)
+deed_in set p in_silence =
+    cond (nat_eq p.waiting 0) (commanding set p closes) (opening_slot set p (opens Scroll scroll 0 (p.waiting - 1) p.next))
+deed_in set p (in_lone serial) = cond (nat_le set.serial_room (length p.serials)) (stops 9) (lists serial)
+deed_in set p in_clash =
+    cond (nat_eq p.waiting 255) (stops 7)
+    (opening_slot set p (opens Query query (coins_at set.coins p.next) (p.waiting + 1) (place_behind set.coins p.next)))
+deed_in set p (in_reading serial) = commanding set p (reads serial)
+deed_in set p (ended n) = rests
+
+abbrev pub next_deed : Setting → Play → Deed
+next_deed set p = deed_in set p p.phase
+
+-- What is then on the air.
+abbrev pub air_of : Deed → List Tag → Air
+air_of (stops n) tags = silent
+air_of (opens c frame row g next) tags = on_air frame row tags
+air_of (lists serial) tags = silent
+air_of (reads serial) tags = on_air (read serial) 0 tags
+air_of closes tags = on_air again 0 tags
+air_of rests tags = silent
+
+-- The phase that a slot opens with.
+abbrev pub opened_by : Hearing → Air → Phase
+opened_by Silence air = in_silence
+opened_by Lone air = in_lone (serial_in Lone air)
+opened_by Clash air = in_clash
+
+-- A READ that is not heard as lone is sent again.
+abbrev pub read_by : Hearing → List ℕ → Phase
+read_by Silence serial = in_reading serial
+read_by Lone serial = in_silence
+read_by Clash serial = in_reading serial
+
+-- The sweep once a deed is done and something is heard.
+abbrev pub done : Deed → Hearing → Play → Play
+done (stops n) h p =
+    record {
+      phase = ended n;
+      waiting = p.waiting;
+      next = p.next;
+      commands = p.commands;
+      reads = p.reads;
+      slots = p.slots;
+      serials = p.serials;
+      tags = p.tags;
+    }
+done (opens c frame row g next) h p =
+    record {
+      phase = opened_by h (on_air frame row p.tags);
+      waiting = g;
+      next = next;
+      commands = p.commands + 1;
+      reads = p.reads;
+      slots = p.slots ++ record { command = c; hearing = h; waiting = g } ∷ [];
+      serials = p.serials;
+      tags = stepped_all frame row p.tags;
+    }
+done (lists serial) h p =
+    record {
+      phase = in_reading serial;
+      waiting = p.waiting;
+      next = p.next;
+      commands = p.commands;
+      reads = p.reads;
+      slots = p.slots;
+      serials = p.serials ++ serial ∷ [];
+      tags = p.tags;
+    }
+done (reads serial) h p =
+    record {
+      phase = read_by h serial;
+      waiting = p.waiting;
+      next = p.next;
+      commands = p.commands + 1;
+      reads = p.reads + 1;
+      slots = p.slots;
+      serials = p.serials;
+      tags = stepped_all (read serial) 0 p.tags;
+    }
+done closes h p =
+    record {
+      phase = ended 0;
+      waiting = p.waiting;
+      next = p.next;
+      commands = p.commands + 1;
+      reads = p.reads;
+      slots = p.slots;
+      serials = p.serials;
+      tags = stepped_all again 0 p.tags;
+    }
+done rests h p = p
+
+-- One deed more.
+unfoldable pub went : Setting → Hearing → Play → Play
+went set h p = done (next_deed set p) h p
+
+-- What may be heard next, and what is heard where every lone reply is heard as lone.
+unfoldable pub may_hear : Setting → Play → Hearing → Type 0
+may_hear set p h = MayHear (air_of (next_deed set p) p.tags) h
+
+unfoldable pub plain : Setting → Play → Hearing
+plain set p = plainly (air_of (next_deed set p) p.tags)
+
+-- A sweep, deed by deed, as some hearings have it go on.
+unfoldable pub played : Setting → List Hearing → Play → Play
+played set [] p = p
+played set (h ∷ hs) p = played set hs (went set h p)
+
+-- The hearings are such as may come: only of a lone reply there is a choice.
+unfoldable pub Heard : Setting → List Hearing → Play → Type 0
+Heard set [] p = Unit {0}
+Heard set (h ∷ hs) p = may_hear set p h × Heard set hs (went set h p)
+
+-- So many deeds where every lone reply is heard as lone: nothing is free.
+unfoldable pub replayed : Setting → ℕ → Play → Play
+replayed set zero p = p
+replayed set (suc n) p = replayed set n (went set (plain set p) p)

@@ -1,0 +1,4 @@
+// A reader's sweep of a field, slot by slot.
+#![tactic(auto)]
+
+pub mod row;

@@ -1,0 +1,11 @@
+// What is listed of a slot.
+use field::hearing::Hearing;
+use protocol::command::Command;
+
+// The command that opened the slot, what was heard, and how many groups then waited.
+#[derive(Clone, Copy, PartialEq, Eq, Debug)]
+pub struct SlotRow {
+    pub command: Command,
+    pub hearing: Hearing,
+    pub waiting: u8,
+}

@@ -1,0 +1,49 @@
+-- What becomes of tags in a whole sweep, and which of them it reports: by no coin, and by no hearing. Assumes nothing.
+use Rattle.std.specs.Prelude.{◌≡◌, ℕ, ◌≤◌, Bool, cond, List, map, length, None, All, count_by, filter}
+use Rattle.std.specs.Str.{bytes_eq}
+use Rattle.record.specs.declared.WriteMark.TheVariants.{Clear}
+use Rattle.record.specs.declared.Tag.{Tag}
+use Rattle.record.specs.Masks.{matches}
+use Rattle.record.specs.Records.{serial_of, counting_to, marking, permitting}
+use Rattle.tag.specs.Steps.{is_chosen, moved}
+use Rattle.field.specs.declared.hearing.Hearing.{Hearing}
+use Rattle.slot.specs.Commands.{word}
+use Rattle.slot.specs.Rules.{Setting, Play, beginning, ended, played, Heard}
+
+-- The tags that a sweep reports, as it begins: those that are READY and match its SELECT, and those in SINGULATION.
+abbrev pub is_due : Tag → Bool
+is_due t = is_chosen t.state (matches t.memory 0x00 0xc0 word)
+
+-- A tag once a whole sweep is over. One that was due has been read.
+abbrev pub swept : Tag → Tag
+swept t = permitting None (marking Clear (cond (is_due t) (moved (counting_to 0 t)) t))
+
+-- How many times a serial number is listed.
+abbrev pub times : List ℕ → List (List ℕ) → ℕ
+times serial serials = count_by (λ s. bytes_eq s serial) serials
+
+abbrev pub due_serials : List Tag → List (List ℕ)
+due_serials tags = map serial_of (filter is_due tags)
+
+-- No serial number is there twice.
+abbrev pub Distinct : List Tag → Type 0
+Distinct tags = (serial : List ℕ) → times serial (map serial_of tags) ≤ 1
+
+-- Every serial number has its eight bytes.
+abbrev pub Sized : List Tag → Type 0
+Sized tags = All (λ t. length (serial_of t) ≡ 8) tags
+
+-- A list of serial numbers has each that is due, once, and no other.
+pub record EachOnce (serials dues : List (List ℕ)) : Type 0 where
+  pub same : (serial : List ℕ) → times serial serials ≡ times serial dues
+  pub once : (serial : List ℕ) → times serial serials ≤ 1
+
+-- What a whole sweep leaves and reports.
+pub record Fated (before : List Tag) (p : Play) : Type 0 where
+  pub tags : p.tags ≡ map swept before
+  pub serials : EachOnce p.serials (due_serials before)
+
+abbrev pub Fates : Type 0
+Fates =
+    (set : Setting) (hs : List Hearing) (tags : List Tag) → Sized tags → Distinct tags → Heard set hs (beginning tags)
+    → (played set hs (beginning tags)).phase ≡ ended 0 → Fated tags (played set hs (beginning tags))
