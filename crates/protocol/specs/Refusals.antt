@@ -1,7 +1,7 @@
 -- The refusals by their numbers, and answers that are a number or a refusal. Assumes nothing.
 use Rattle.std.specs.Prelude.{ℕ, Ok, Err, Result}
 use Rattle.protocol.specs.declared.refusal.Refusal.{Refusal}
-use Rattle.protocol.specs.declared.refusal.Refusal.TheVariants.{Stub, Check, Code, Length, Buffer, Crowd, Period}
+use Rattle.protocol.specs.declared.refusal.Refusal.TheVariants.{Stub, Check, Code, Length, Buffer, Crowd, Coins, Period}
 
 abbrev pub number_of : Refusal → ℕ
 number_of Stub = 1
@@ -10,6 +10,7 @@ number_of Code = 3
 number_of Length = 4
 number_of Buffer = 5
 number_of Crowd = 6
+number_of Coins = 10
 number_of Period = 11
 
 pub data Answer : Type 0 where

@@ -21,6 +21,8 @@ pub enum Refusal {
     Buffer = 5,
     // More than 64 places in a field.
     Crowd = 6,
+    // No recorded row of coins, or more than 64.
+    Coins = 10,
     // A spoiler of each reply of no number.
     Period = 11,
 }
@@ -53,6 +55,7 @@ impl fmt::Display for Refusal {
             Refusal::Length => "length",
             Refusal::Buffer => "buffer",
             Refusal::Crowd => "crowd",
+            Refusal::Coins => "coins",
             Refusal::Period => "period",
         })
     }
