@@ -1,6 +1,9 @@
-// What is listed of a slot.
+// What is listed of a slot, and of a tag.
 use field::hearing::Hearing;
 use protocol::command::Command;
+use record::SERIAL;
+
+pub type Serial = [u8; SERIAL];
 
 // The command that opened the slot, what was heard, and how many groups then waited.
 #[derive(Clone, Copy, PartialEq, Eq, Debug)]

@@ -1,0 +1,68 @@
+// Sending one command, made from its code and parameters.
+ghost use Rattle.std.specs.Prelude.{◌≡◌, ◌+◌, ◌≤◌, true, length, take};
+ghost use Rattle.frame.specs.Openings.{opening};
+ghost use Rattle.protocol.specs.Commands.{length_of};
+ghost use Rattle.field.specs.Airs.{MayHear, plainly};
+ghost use Rattle.field.specs.Sends.{stepped_all, on_air};
+ghost use Rattle.slot.specs.Commands.{frame_of, serial_in};
+
+use crate::row::Serial;
+use field::field::{Field, ROOM};
+use field::hearing::Hearing;
+use frame::making::make;
+use protocol::command::Command;
+use record::SERIAL;
+
+// How many bytes the longest frame has.
+const LONGEST: usize = 17;
+
+// What is heard, and the first bytes of what then stands in the reply buffer: a lone tag's serial number.
+#[derive(Clone, Copy)]
+pub(crate) struct Answer {
+    pub(crate) hearing: Hearing,
+    pub(crate) serial: Serial,
+}
+
+// Sends a command with parameters that fit it.
+pub(crate) fn ask<F: Field>(field: &mut F, command: Command, parameters: &[u8], row: u64) -> Answer
+    requires { length parameters.now + 3 ≡ length_of command }
+    ensures tags { F.tags field.new ≡ stepped_all (opening (frame_of command parameters.now)) row (F.tags field.old) }
+    ensures hearing { MayHear (on_air (opening (frame_of command parameters.now)) row (F.tags field.old)) result.hearing }
+    ensures faithful { F.faithful ≡ true → result.hearing ≡ plainly (on_air (opening (frame_of command parameters.now)) row (F.tags field.old)) }
+    ensures serial { result.serial ≡ serial_in result.hearing (on_air (opening (frame_of command parameters.now)) row (F.tags field.old)) }
+{
+    let mut frame = [0; LONGEST];
+    let length = put_frame(command, parameters, &mut frame);
+    transmit(field, &frame[..length], row)
+}
+
+// Makes the frame of a command with parameters that fit it, and tells its length.
+fn put_frame(command: Command, parameters: &[u8], frame: &mut [u8]) -> usize
+    requires fits { length parameters.now + 3 ≡ length_of command }
+    requires room { 17 ≤ length frame.old }
+    ensures inside { result ≤ length frame.old }
+    ensures made { take result frame.new ≡ frame_of command parameters.now }
+{
+    match make(u8::from(command), parameters, frame) {
+        Ok(length) => length,
+        Err(_) => 0,
+    }
+}
+
+// Sends a frame, and takes the serial number from the reply.
+fn transmit<F: Field>(field: &mut F, bytes: &[u8], row: u64) -> Answer
+    ensures tags { F.tags field.new ≡ stepped_all (opening bytes.now) row (F.tags field.old) }
+    ensures hearing { MayHear (on_air (opening bytes.now) row (F.tags field.old)) result.hearing }
+    ensures faithful { F.faithful ≡ true → result.hearing ≡ plainly (on_air (opening bytes.now) row (F.tags field.old)) }
+    ensures serial { result.serial ≡ serial_in result.hearing (on_air (opening bytes.now) row (F.tags field.old)) }
+{
+    let mut reply = [0; ROOM];
+    let mut serial = [0; SERIAL];
+    let heard = field.send(bytes, row, &mut reply);
+    serial.copy_from_slice(&reply[..SERIAL]);
+    // A buffer of this length is never refused.
+    Answer {
+        hearing: heard.unwrap_or(Hearing::Silence),
+        serial,
+    }
+}
