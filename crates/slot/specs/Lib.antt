@@ -1,2 +1,4 @@
 pub mod Commands
+pub mod Countings
 pub mod Rules
+pub mod Slots

@@ -2,4 +2,9 @@
 #![tactic(auto)]
 
 mod asking;
+pub mod counts;
+pub mod ending;
+pub mod kinds;
+pub mod lists;
+mod opening;
 pub mod row;

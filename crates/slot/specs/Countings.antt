@@ -1,0 +1,36 @@
+-- Ends by their numbers, and counts. Assumes nothing.
+use Rattle.std.specs.Prelude.{ℕ, ◌+◌, min, codes, List}
+use Rattle.field.specs.declared.hearing.Hearing.{Hearing}
+use Rattle.field.specs.declared.hearing.Hearing.TheVariants.{Silence, Lone, Clash}
+use Rattle.slot.specs.declared.counts.Counts.{Counts}
+use Rattle.slot.specs.declared.ending.Stop.{Stop}
+use Rattle.slot.specs.declared.ending.Stop.TheVariants.{Deep, Spent, Full}
+use Rattle.slot.specs.declared.ending.End.{End}
+use Rattle.slot.specs.declared.ending.End.TheVariants.{Whole, Stopped}
+
+abbrev pub stop_number : Stop → ℕ
+stop_number Deep = 7
+stop_number Spent = 8
+stop_number Full = 9
+
+abbrev pub end_number : End → ℕ
+end_number Whole = 0
+end_number (Stopped stop) = stop_number stop
+
+abbrev pub stop_name : Stop → List ℕ
+stop_name Deep = codes "deep"
+stop_name Spent = codes "spent"
+stop_name Full = codes "full"
+
+-- One more in a count. It stays at 65,535, which a budget of at most so many commands never lets it pass.
+abbrev pub one_more : ℕ → ℕ
+one_more n = min (n + 1) 65535
+
+abbrev pub sent_one : Counts → Counts
+sent_one c = record { lone = c.lone; silent = c.silent; clash = c.clash; commands = one_more c.commands }
+
+-- The counts once a command has opened a slot.
+abbrev pub counted : Hearing → Counts → Counts
+counted Silence c = record { lone = c.lone; silent = one_more c.silent; clash = c.clash; commands = one_more c.commands }
+counted Lone c = record { lone = one_more c.lone; silent = c.silent; clash = c.clash; commands = one_more c.commands }
+counted Clash c = record { lone = c.lone; silent = c.silent; clash = one_more c.clash; commands = one_more c.commands }

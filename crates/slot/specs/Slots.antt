@@ -1,0 +1,57 @@
+-- What slots, answers and stops say, by numbers and in the words of the rule. Assumes nothing.
+use Rattle.std.specs.Prelude.{◌≡◌, ℕ, ◌+◌, ◌≤◌, min, Bool, true, false, List, [], ◌∷◌, ◌++◌, length, Ok, Err, Result}
+use Rattle.protocol.specs.declared.command.Command.{Command}
+use Rattle.frame.specs.Openings.{Opening}
+use Rattle.record.specs.declared.Tag.{Tag}
+use Rattle.rows.specs.Filling.{rows_of, room_of, Behind}
+use Rattle.field.specs.declared.hearing.Hearing.{Hearing}
+use Rattle.field.specs.declared.hearing.Hearing.TheVariants as hearing
+use Rattle.field.specs.Airs.{MayHear, plainly}
+use Rattle.field.specs.Sends.{stepped_all, on_air}
+use Rattle.slot.specs.declared.counts.Counts.{Counts}
+use Rattle.slot.specs.declared.ending.Stop.{Stop}
+use Rattle.slot.specs.declared.ending.Stop.TheVariants as stop
+use Rattle.slot.specs.declared.ending.Stopped.{Stopped}
+use Rattle.slot.specs.declared.kinds.Stand.{Stand}
+use Rattle.slot.specs.declared.kinds.Slot.{Slot}
+use Rattle.slot.specs.declared.kinds.Slot.TheVariants as slot
+use Rattle.slot.specs.declared.lists.Lists.{Lists}
+use Rattle.slot.specs.Countings.{counted}
+use Rattle.slot.specs.Rules.{Setting, Phase, Play, in_silence, in_lone, in_clash, ended, opened_by}
+
+-- The hearing that a slot opened with.
+abbrev pub heard_in : Slot → Hearing
+heard_in (slot.Silent s) = hearing.Silence
+heard_in (slot.Lone s) = hearing.Lone
+heard_in (slot.Clash s) = hearing.Clash
+
+abbrev pub phase_of : Slot → Phase
+phase_of (slot.Silent s) = in_silence
+phase_of (slot.Lone s) = in_lone s.serial
+phase_of (slot.Clash s) = in_clash
+
+abbrev pub stand_of : Slot → Stand
+stand_of (slot.Silent s) = s.stand
+stand_of (slot.Lone s) = s.stand
+stand_of (slot.Clash s) = s.stand
+
+-- The phase of a slot by what was heard, and the serial number then.
+abbrev pub phase_with : Hearing → List ℕ → Phase
+phase_with hearing.Silence serial = in_silence
+phase_with hearing.Lone serial = in_lone serial
+phase_with hearing.Clash serial = in_clash
+
+-- Where a sweep stands once a slot is opened.
+abbrev pub standing : ℕ → ℕ → ℕ → Counts → Stand
+standing budget waiting next counts = record { budget = budget; waiting = waiting; next = next; counts = counts }
+
+-- What opening a slot does where nothing stops it.
+pub record Opened (faithful : Bool) (command : Command) (frame : Opening) (row : ℕ) (from : Stand) (before after : Lists) (tags_before tags_after : List Tag) (opened : Slot) : Type 0 where
+  pub may_be : MayHear (on_air frame row tags_before) (heard_in opened)
+  pub plain : faithful ≡ true → heard_in opened ≡ plainly (on_air frame row tags_before)
+  pub phase : phase_of opened ≡ opened_by (heard_in opened) (on_air frame row tags_before)
+  pub stand : stand_of opened ≡ standing from.budget from.waiting from.next (counted (heard_in opened) from.counts)
+  pub slots : rows_of after.slots ≡ rows_of before.slots ++ record { command = command; hearing = heard_in opened; waiting = from.waiting } ∷ []
+  pub behind : Behind before.slots after.slots
+  pub serials : after.serials ≡ before.serials
+  pub tags : tags_after ≡ stepped_all frame row tags_before

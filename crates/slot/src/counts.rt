@@ -1,0 +1,58 @@
+// What a sweep counts.
+ghost use Rattle.std.specs.Prelude.{◌≡◌};
+ghost use Rattle.slot.specs.Countings.{counted, sent_one};
+
+use field::hearing::Hearing;
+
+// Slots by what was heard, and commands. No count passes the budget, which is a number of this size.
+#[derive(Clone, Copy, PartialEq, Eq, Debug)]
+pub struct Counts {
+    pub lone: u16,
+    pub silent: u16,
+    pub clash: u16,
+    pub commands: u16,
+}
+
+impl Counts {
+    pub(crate) fn new() -> Counts
+        ensures { result ≡ record { lone = 0; silent = 0; clash = 0; commands = 0 } }
+    {
+        Counts {
+            lone: 0,
+            silent: 0,
+            clash: 0,
+            commands: 0,
+        }
+    }
+
+    // One command more.
+    pub(crate) fn with_command(self) -> Counts
+        ensures { result ≡ sent_one self }
+    {
+        Counts {
+            commands: self.commands.saturating_add(1),
+            ..self
+        }
+    }
+
+    // One command more, and the slot that it opened.
+    pub(crate) fn with_slot(self, hearing: Hearing) -> Counts
+        ensures { result ≡ counted hearing self }
+    {
+        let counts = self.with_command();
+        match hearing {
+            Hearing::Silence => Counts {
+                silent: counts.silent.saturating_add(1),
+                ..counts
+            },
+            Hearing::Lone => Counts {
+                lone: counts.lone.saturating_add(1),
+                ..counts
+            },
+            Hearing::Clash => Counts {
+                clash: counts.clash.saturating_add(1),
+                ..counts
+            },
+        }
+    }
+}

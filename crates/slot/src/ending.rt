@@ -1,0 +1,63 @@
+// How a sweep ends.
+ghost use Rattle.std.specs.Prelude.{◌≡◌, Some};
+ghost use Rattle.slot.specs.Countings.{stop_number, end_number, stop_name};
+
+use crate::counts::Counts;
+use std::fmt;
+
+// What stops a sweep, by its number.
+#[derive(Clone, Copy, PartialEq, Eq, Debug)]
+pub enum Stop {
+    // A clash where 255 groups wait.
+    Deep = 7,
+    // The budget of commands is spent.
+    Spent = 8,
+    // A list is full.
+    Full = 9,
+}
+
+impl Stop {
+    // The number by which the stop is known outside.
+    pub fn number(self) -> u8
+        ensures { result ≡ stop_number self }
+    {
+        self as u8
+    }
+}
+
+impl fmt::Display for Stop {
+    ghost output = { λ stop. Some (stop_name stop) };
+
+    fn fmt<W: fmt::Write>(&self, f: &mut fmt::Formatter<W>) -> fmt::Result {
+        f.pad(match self {
+            Stop::Deep => "deep",
+            Stop::Spent => "spent",
+            Stop::Full => "full",
+        })
+    }
+}
+
+// A sweep that is stopped, and what it has counted.
+#[derive(Clone, Copy, PartialEq, Eq, Debug)]
+pub struct Stopped {
+    pub stop: Stop,
+    pub counts: Counts,
+}
+
+#[derive(Clone, Copy, PartialEq, Eq, Debug)]
+pub enum End {
+    Whole,
+    Stopped(Stop),
+}
+
+impl End {
+    // The number by which the end is known outside: 0 for a whole sweep.
+    pub fn number(self) -> u8
+        ensures { result ≡ end_number self }
+    {
+        match self {
+            End::Whole => 0,
+            End::Stopped(stop) => stop.number(),
+        }
+    }
+}
