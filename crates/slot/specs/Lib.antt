@@ -1,4 +1,5 @@
 pub mod Commands
 pub mod Countings
+pub mod Going
 pub mod Rules
 pub mod Slots

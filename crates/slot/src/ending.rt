@@ -61,3 +61,10 @@ impl End {
         }
     }
 }
+
+// What a sweep reports beside its lists.
+#[derive(Clone, Copy, PartialEq, Eq, Debug)]
+pub struct Report {
+    pub end: End,
+    pub counts: Counts,
+}

@@ -1,6 +1,11 @@
 // Open slots, by what was heard in them.
+ghost use Rattle.std.specs.Prelude.{◌≡◌};
+ghost use Rattle.slot.specs.declared.kinds.Unsplit.TheVariants as unsplit;
+
 use crate::counts::Counts;
+use crate::ending::Stopped;
 use crate::row::Serial;
+use field::declined::Declined;
 
 // Where a sweep stands: its budget of commands, how many groups wait, the place of the row of coins to draw next, and
 // what it has counted.
@@ -34,4 +39,32 @@ pub enum Slot {
     Silent(SilentSlot),
     Lone(LoneSlot),
     Clash(ClashSlot),
+}
+
+// What comes of leaving a silent slot: the next one, or the end of a whole sweep.
+pub enum Left {
+    Next(Slot),
+    Whole(Counts),
+}
+
+// Why a clash slot is not split: a refusal, with the slot handed back, or a stop that has spent it.
+#[derive(Drop)]
+pub enum Unsplit {
+    Refused(Declined<ClashSlot>),
+    Stopped(Stopped),
+}
+
+impl From<Stopped> for Unsplit {
+    ghost from_gives = { λ stopped why. why ≡ unsplit.Stopped stopped };
+
+    fn from(stopped: Stopped) -> Unsplit {
+        Unsplit::Stopped(stopped)
+    }
+}
+
+// What is known of a lone slot that is given up. The sweep has no end number.
+#[derive(Clone, Copy)]
+pub struct GivenUp {
+    pub serial: Serial,
+    pub counts: Counts,
 }

@@ -8,3 +8,4 @@ pub mod kinds;
 pub mod lists;
 mod opening;
 pub mod row;
+pub mod working;

@@ -17,13 +17,13 @@ use field::hearing::Hearing;
 use protocol::command::Command;
 
 impl Stand {
-    fn is_spent(self) -> bool
+    pub(crate) fn is_spent(self) -> bool
         ensures { result ≡ nat_le self.budget self.counts.commands }
     {
         self.counts.commands >= self.budget
     }
 
-    fn stopped(self, stop: Stop) -> Stopped
+    pub(crate) fn stopped(self, stop: Stop) -> Stopped
         ensures { result ≡ record { stop = stop; counts = self.counts } }
     {
         Stopped {

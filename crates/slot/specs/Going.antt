@@ -1,0 +1,103 @@
+-- How the rule takes a sweep from one call to the next. Assumes nothing.
+use Rattle.std.specs.Prelude.{◌≡◌, ℕ, ◌-◌, Bool, true, false, cond, ◌&&◌, List, [], length, Some, None, Ok, Err, Option, Result, nat_le}
+use Rattle.protocol.specs.Refusals.{number_of}
+use Rattle.record.specs.declared.Tag.{Tag}
+use Rattle.rows.specs.Filling.{rows_of, room_of, Behind}
+use Rattle.field.specs.declared.hearing.Hearing.{Hearing}
+use Rattle.slot.specs.declared.counts.Counts.{Counts}
+use Rattle.slot.specs.declared.ending.Stopped.{Stopped}
+use Rattle.slot.specs.declared.kinds.Stand.{Stand}
+use Rattle.slot.specs.declared.kinds.Slot.{Slot}
+use Rattle.slot.specs.declared.kinds.SilentSlot.{SilentSlot}
+use Rattle.slot.specs.declared.kinds.Left.{Left}
+use Rattle.slot.specs.declared.kinds.Left.TheVariants as left
+use Rattle.slot.specs.declared.kinds.Unsplit.{Unsplit}
+use Rattle.slot.specs.declared.kinds.Unsplit.TheVariants as unsplit
+use Rattle.slot.specs.declared.lists.Lists.{Lists}
+use Rattle.slot.specs.Countings.{stop_number, counted, sent_one}
+use Rattle.slot.specs.Rules.{Setting, Phase, Play, in_silence, in_clash, in_reading, ended, played, Heard, replayed}
+use Rattle.slot.specs.Slots.{heard_in, phase_of, stand_of}
+
+-- From one moment of a sweep to a later one: by hearings such as may come, and where every lone reply is heard as lone,
+-- by nothing but the rule.
+pub record Reaches (faithful : Bool) (set : Setting) (p q : Play) : Type 0 where
+  pub hearings : List Hearing
+  pub heard : Heard set hearings p
+  pub there : q ≡ played set hearings p
+  pub plain : faithful ≡ true → q ≡ replayed set (length hearings) p
+
+-- From each moment that is so, the rule reaches one that is as told.
+abbrev pub GoesOn : Bool → Setting → (Play → Type 0) → (Play → Type 0) → Type 0
+GoesOn faithful set before after = (p : Play) → before p → (q : Play) × Reaches faithful set p q × after q
+
+-- What a call is lent for a sweep.
+abbrev pub setting : List ℕ → ℕ → Lists → Setting
+setting coins budget lists =
+    record { coins = coins; budget = budget; slot_room = room_of lists.slots; serial_room = room_of lists.serials }
+
+-- Where a call leaves a sweep.
+pub data Where : Type 0 where
+  -- with a slot that is open
+  at_slot : Phase → Stand → Where
+  -- at its end, by the end's number
+  over : ℕ → Counts → Where
+
+-- The answers of the calls.
+abbrev pub where_opened : Result Slot Stopped → Where
+where_opened (Ok s) = at_slot (phase_of s) (stand_of s)
+where_opened (Err s) = over (stop_number s.stop) s.counts
+
+abbrev pub where_split : Result Slot Unsplit → Where
+where_split (Ok s) = at_slot (phase_of s) (stand_of s)
+where_split (Err (unsplit.Refused d)) = at_slot in_clash d.given.stand
+where_split (Err (unsplit.Stopped s)) = over (stop_number s.stop) s.counts
+
+abbrev pub where_read : Result SilentSlot Stopped → Where
+where_read (Ok s) = at_slot in_silence s.stand
+where_read (Err s) = over (stop_number s.stop) s.counts
+
+abbrev pub where_left : Result Left Stopped → Where
+where_left (Ok (left.Next s)) = at_slot (phase_of s) (stand_of s)
+where_left (Ok (left.Whole counts)) = over 0 counts
+where_left (Err s) = over (stop_number s.stop) s.counts
+
+-- A moment of a sweep as a slot, the lists and the field have it.
+pub record StandsAt (at : Phase) (stand : Stand) (lists : Lists) (population : List Tag) (p : Play) : Type 0 where
+  pub phase : p.phase ≡ at
+  pub waiting : p.waiting ≡ stand.waiting
+  pub next : p.next ≡ stand.next
+  pub commands : p.commands ≡ stand.counts.commands
+  pub slots : p.slots ≡ rows_of lists.slots
+  pub serials : p.serials ≡ rows_of lists.serials
+  pub tags : p.tags ≡ population
+
+-- The end of a sweep.
+pub record EndsAt (number : ℕ) (counts : Counts) (lists : Lists) (population : List Tag) (p : Play) : Type 0 where
+  pub phase : p.phase ≡ ended number
+  pub commands : p.commands ≡ counts.commands
+  pub slots : p.slots ≡ rows_of lists.slots
+  pub serials : p.serials ≡ rows_of lists.serials
+  pub tags : p.tags ≡ population
+
+abbrev pub Shows : Where → Lists → List Tag → Play → Type 0
+Shows (at_slot phase stand) = StandsAt phase stand
+Shows (over number counts) = EndsAt number counts
+
+-- Slots are counted by what was heard as they opened: one more where a call has opened one, and none otherwise.
+abbrev pub counts_in : Where → Counts
+counts_in (at_slot phase stand) = stand.counts
+counts_in (over number counts) = counts
+
+-- Both lists before and after a call.
+pub record BothBehind (before after : Lists) : Type 0 where
+  pub slots : Behind before.slots after.slots
+  pub serials : Behind before.serials after.serials
+
+-- From 1 to 64 recorded rows.
+abbrev pub is_recorded : List ℕ → Bool
+is_recorded coins = nat_le 1 (length coins) && nat_le (length coins) 64
+
+abbrev pub refused_by : Result Slot Unsplit → Option ℕ
+refused_by (Ok s) = None
+refused_by (Err (unsplit.Refused d)) = Some (number_of d.refusal)
+refused_by (Err (unsplit.Stopped s)) = None

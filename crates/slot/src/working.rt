@@ -1,0 +1,158 @@
+// Working a sweep slot by slot.
+ghost use Rattle.std.specs.Prelude.{◌≡◌, ℕ, List, [], ◌<◌, ◌≤◌, length, IfOk, IfErr, OnErr, if◌then◌else◌, Some, None};
+ghost use Rattle.slot.specs.Going.{GoesOn, setting, where_opened, where_split, where_read, where_left, StandsAt, Shows, BothBehind, is_recorded, refused_by};
+ghost use Rattle.slot.specs.Rules.{beginning, in_silence, in_lone, in_clash, in_reading};
+
+use crate::asking::ask;
+use crate::counts::Counts;
+use crate::ending::{Stop, Stopped};
+use crate::kinds::{ClashSlot, GivenUp, Left, LoneSlot, SilentSlot, Slot, Stand, Unsplit};
+use crate::lists::Lists;
+use crate::opening::open_slot;
+use crate::row::Serial;
+use field::declined::Declined;
+use field::field::Field;
+use field::hearing::Hearing;
+use protocol::command::Command;
+use protocol::refusal::Refusal;
+use record::SERIAL;
+
+// How many recorded rows of coins there can be.
+pub const MOST_ROWS: usize = 64;
+
+// What SELECT asks for: address 00, mask C0, and the word EF 04 with six 00.
+const WANTED: [u8; 10] = [0x00, 0xc0, 0xef, 0x04, 0, 0, 0, 0, 0, 0];
+
+// Begins a sweep: empties the lists, and sends SELECT.
+pub fn open<F: Field>(field: &mut F, budget: u16, lists: &mut Lists<'_>) -> Result<Slot, Stopped>
+    ensures rule { (coins : List ℕ) → GoesOn F.faithful (setting coins budget lists.old) (λ p. p ≡ beginning (F.tags field.old)) (Shows (where_opened result) lists.new (F.tags field.new)) }
+    ensures behind { BothBehind lists.old lists.new }
+{
+    lists.slots.clear();
+    lists.serials.clear();
+    let stand = Stand {
+        budget,
+        waiting: 0,
+        next: 0,
+        counts: Counts::new(),
+    };
+    open_slot(field, Command::Select, &WANTED, 0, stand, lists)
+}
+
+impl ClashSlot {
+    // Draws a row of coins and sends QUERY: each tag in turn waits for the next slots if its coin is 1.
+    pub fn split<F: Field>(
+        self,
+        field: &mut F,
+        coins: &[u64],
+        lists: &mut Lists<'_>,
+    ) -> Result<Slot, Unsplit>
+        ensures refusal { refused_by result ≡ (if is_recorded coins.now then None else Some 10) }
+        ensures rule { GoesOn F.faithful (setting coins.now self.stand.budget lists.old) (StandsAt in_clash self.stand lists.old (F.tags field.old)) (Shows (where_split result) lists.new (F.tags field.new)) }
+        ensures behind { BothBehind lists.old lists.new }
+    {
+        if coins.is_empty() || coins.len() > MOST_ROWS {
+            return Err(Unsplit::Refused(Declined {
+                refusal: Refusal::Coins,
+                given: self,
+            }));
+        }
+        let ClashSlot { stand } = self;
+        Ok(stand.split(field, coins, lists)?)
+    }
+}
+
+impl SilentSlot {
+    // Sends SCROLL for the next group that waits, or the closing REPEAT if none does.
+    pub fn leave<F: Field>(self, field: &mut F, lists: &mut Lists<'_>) -> Result<Left, Stopped>
+        ensures rule { (coins : List ℕ) → GoesOn F.faithful (setting coins self.stand.budget lists.old) (StandsAt in_silence self.stand lists.old (F.tags field.old)) (Shows (where_left result) lists.new (F.tags field.new)) }
+        ensures behind { BothBehind lists.old lists.new }
+    {
+        let SilentSlot { stand } = self;
+        if stand.waiting == 0 {
+            return Ok(Left::Whole(stand.close(field)?));
+        }
+        let next = Stand {
+            waiting: stand.waiting - 1,
+            ..stand
+        };
+        Ok(Left::Next(open_slot(field, Command::Scroll, &[], 0, next, lists)?))
+    }
+}
+
+impl LoneSlot {
+    // Lists the serial number, and sends READ until a reply is heard as lone. The slot can then be left.
+    pub fn read<F: Field>(self, field: &mut F, lists: &mut Lists<'_>) -> Result<SilentSlot, Stopped>
+        ensures rule { (coins : List ℕ) → GoesOn F.faithful (setting coins self.stand.budget lists.old) (StandsAt (in_lone self.serial) self.stand lists.old (F.tags field.old)) (Shows (where_read result) lists.new (F.tags field.new)) }
+        ensures behind { BothBehind lists.old lists.new }
+    {
+        let LoneSlot { stand, serial } = self;
+        if lists.serials.push(serial).is_err() {
+            return Err(stand.stopped(Stop::Full));
+        }
+        stand.read(field, &serial)
+    }
+
+    // Ends the sweep here. Nothing is sent or listed.
+    pub fn give_up(self) -> GivenUp
+        ensures { result ≡ record { serial = self.serial; counts = self.stand.counts } }
+    {
+        let LoneSlot { stand, serial } = self;
+        GivenUp {
+            serial,
+            counts: stand.counts,
+        }
+    }
+}
+
+impl Stand {
+    // Splits a clash slot, by rows of coins that there are.
+    fn split<F: Field>(
+        self,
+        field: &mut F,
+        coins: &[u64],
+        lists: &mut Lists<'_>,
+    ) -> Result<Slot, Stopped>
+        requires { 0 < length coins.now }
+        ensures rule { GoesOn F.faithful (setting coins.now self.budget lists.old) (StandsAt in_clash self lists.old (F.tags field.old)) (Shows (where_opened result) lists.new (F.tags field.new)) }
+        ensures behind { BothBehind lists.old lists.new }
+    {
+        if self.waiting == u8::MAX {
+            return Err(self.stopped(Stop::Deep));
+        }
+        let place = self.next % coins.len();
+        let stand = Stand {
+            waiting: self.waiting + 1,
+            next: place + 1,
+            ..self
+        };
+        open_slot(field, Command::Query, &[], coins[place], stand, lists)
+    }
+
+    // Sends READ until a reply is heard as lone.
+    fn read<F: Field>(self, field: &mut F, serial: &[u8]) -> Result<SilentSlot, Stopped>
+        requires { length serial.now ≡ 8 }
+        ensures rule { (coins : List ℕ) (lists : Lists) → GoesOn F.faithful (setting coins self.budget lists) (StandsAt (in_reading serial.now) self lists (F.tags field.old)) (Shows (where_read result) lists (F.tags field.new)) }
+    {
+        let mut target = [0; SERIAL + 1];
+        target[..SERIAL].copy_from_slice(serial);
+        let mut stand = self;
+        for sent in self.counts.commands..self.budget {
+            let answer = ask(field, Command::Read, &target, 0);
+            stand.counts.commands = sent + 1;
+            if answer.hearing == Hearing::Lone {
+                return Ok(SilentSlot { stand });
+            }
+        }
+        Err(stand.stopped(Stop::Spent))
+    }
+
+    // Sends the closing REPEAT, which opens no slot.
+    fn close<F: Field>(self, field: &mut F) -> Result<Counts, Stopped> {
+        if self.is_spent() {
+            return Err(self.stopped(Stop::Spent));
+        }
+        let _ = ask(field, Command::Repeat, &[], 0);
+        Ok(self.counts.with_command())
+    }
+}
