@@ -1,0 +1,74 @@
+-- What a sweep's frames ask of tags, and which serial number stands in a reply. Assumes nothing.
+use Rattle.std.proofs.Common.{◌≡◌, ℕ, ◌+◌, ◌-◌, ◌≤◌, true, List, [], ◌∷◌, ◌++◌, length, get_or, take, drop, replicate, Some, sym, refl, ap, ◌∙◌, ap₂, arith}
+use Rattle.std.proofs.lemmas.Slice.Eq.{bytes_eq-Decides}
+use Rattle.std.proofs.lemmas.List.{take_at, drop_at, length-append, append_assoc}
+use Rattle.crc.specs.Check.{moved, bit_taken, bits, byte_taken, sent, check_value, sealed}
+use Rattle.protocol.specs.declared.command.Command.TheVariants.{Read}
+use Rattle.protocol.specs.Commands.{layout, named}
+use Rattle.frame.specs.Openings.{opened, opening, is_sealed, front, parameters_of}
+use Rattle.frame.specs.Parts.{placed}
+use Rattle.frame.proofs.Opens.{opens}
+use Rattle.frame.proofs.Seals.{front-sealed}
+use Rattle.tag.specs.Orders as orders
+use Rattle.tag.specs.Orders.{order}
+use Rattle.field.specs.declared.hearing.Hearing.TheVariants.{Lone}
+use Rattle.field.specs.Airs.{one}
+use Rattle.field.specs.Sends.{padded}
+use Rattle.slot.specs.Commands.{word, target, select, query, scroll, again, read, serial_in}
+
+pub order-select : order select ≡ orders.select 0x00 0xc0 word
+unfolding select opening is_sealed front parameters_of named moved bit_taken bits byte_taken sealed
+order-select = refl
+
+pub order-query : order query ≡ orders.query
+unfolding query opening is_sealed front parameters_of named moved bit_taken bits byte_taken sealed
+order-query = refl
+
+pub order-scroll : order scroll ≡ orders.scroll
+unfolding scroll opening is_sealed front parameters_of named moved bit_taken bits byte_taken sealed
+order-scroll = refl
+
+pub order-again : order again ≡ orders.again
+unfolding again opening is_sealed front parameters_of named moved bit_taken bits byte_taken sealed
+order-again = refl
+
+sealed-length : (message : List ℕ) → length (sealed message) ≡ length message + 2
+unfolding sealed
+sealed-length message = length-append message (sent (check_value message))
+
+is-sealed : (message : List ℕ) → is_sealed (sealed message) ≡ true
+unfolding is_sealed
+is-sealed message = (bytes_eq-Decides (sealed message) (sealed (front (sealed message)))).1 (ap sealed (sym (front-sealed message)))
+
+first_byte : (code : ℕ) (parameters : List ℕ) → get_or (sealed (code ∷ parameters)) 0 0 ≡ code
+unfolding sealed
+first_byte code parameters = refl
+
+named_read : named 0x0c ≡ Some Read
+unfolding named
+named_read = refl
+
+-- The serial number and the address lie where they were placed.
+order-placed : (serial : List ℕ) → length serial ≡ 8 → order (opened 0x0c Read (placed 1 (layout Read) (target serial))) ≡ orders.read serial 0x00 8
+order-placed serial h =
+    ap₂ (λ (s : List ℕ) (rest : List ℕ). orders.read s (get_or (take 1 rest) 0 0) 8) (take_at serial (0x00 ∷ []) 8 h) (drop_at serial (0x00 ∷ []) 8 h)
+
+pub order-read : (serial : List ℕ) → length serial ≡ 8 → order (read serial) ≡ orders.read serial 0x00 8
+unfolding read parameters_of
+order-read serial h =
+    let parameters : List ℕ = target serial in
+    let frame : List ℕ = sealed (0x0c ∷ parameters) in
+    let count : length parameters ≡ 9 = length-append serial (0x00 ∷ []) ∙ omega arith in
+    let long : length frame ≡ 12 = omega (arith, sealed-length (0x0c ∷ parameters)) in
+    ap order
+    (opens frame (omega arith) (is-sealed (0x0c ∷ parameters)) Read (ap named (first_byte 0x0c parameters) ∙ named_read) long
+    ∙ ap (λ (message : List ℕ). opened 0x0c Read (placed 1 (layout Read) (drop 1 message))) (front-sealed (0x0c ∷ parameters)))
+    ∙ order-placed serial h
+
+-- A reply of a serial number is heard as that serial number.
+pub serial_heard : (serial : List ℕ) → length serial ≡ 8 → serial_in Lone (one (sealed serial)) ≡ serial
+unfolding serial_in padded sealed
+serial_heard serial h =
+    let v : List ℕ = sent (check_value serial) in
+    ap (take 8) (append_assoc serial v (replicate (258 - length (serial ++ v)) 0))
+    ∙ take_at serial (v ++ replicate (258 - length (serial ++ v)) 0) 8 h

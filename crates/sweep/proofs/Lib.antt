@@ -1,0 +1,4 @@
+pub mod Frames
+pub mod Tags
+pub mod Crowds
+pub mod Plays
