@@ -1,6 +1,6 @@
 -- One tag in a sweep, command by command. Assumes nothing.
 use Rattle.std.proofs.Common.{◌≡◌, ℕ, ◌+◌, ◌-◌, ◌≤◌, Bool, true, false, cond, not, ◌&&◌, ◌||◌, eqb, ltb, List, length, Some, None, Option, sym, refl, ap, ◌∙◌, subst, arith, eq-eqb}
-use Rattle.std.proofs.lemmas.Bool.{true≢false, and_right}
+use Rattle.std.proofs.lemmas.Bool.{true≢false, and_right, and_parts, eqb-true}
 use Rattle.std.proofs.lemmas.Bool.Decides.{nat_tests}
 use Rattle.frame.specs.Openings.{Opening}
 use Rattle.record.specs.declared.State.{State}
@@ -94,7 +94,7 @@ inactive : {X : Type 0} → false ≡ true → X
 inactive e = absurd (true≢false (sym e))
 
 -- A tag whose turn it is not is not active, if no group waits.
-not_active : (t : Tag) → Fit 0 t → has_turn t ≡ false → is_active t ≡ false
+pub not_active : (t : Tag) → Fit 0 t → has_turn t ≡ false → is_active t ≡ false
 not_active t fit h = go (is_active t) refl
   where
     go : (b : Bool) → is_active t ≡ b → b ≡ false
@@ -260,6 +260,27 @@ read_takes serial w =
       active = λ coin t h. read_active serial w t h (is_meant t serial) refl;
       after = λ coin t h. read_unheard serial w t h (is_meant t serial) refl;
     }
+
+-- A READ may meet a tag whose turn it is.
+settled : (t : Tag) → has_turn t ≡ true → outcome (moved t) ≡ outcome t
+settled t h =
+    let parts = and_parts (is_active t) (eqb t.counter 0) h in
+    ap (λ (n : ℕ). permitting None (marking Clear (moved (counting_to n t)))) (eqb-true t.counter 0 parts.1)
+    ∙ ap (λ (b : Bool). permitting None (marking Clear (cond b (moved (counting_to 0 t)) t))) (sym parts.0)
+
+pub readable : (serial : List ℕ) (w : ℕ) (t : Tag) → Fit w t → has_turn t ≡ is_meant t serial → Readable serial w t
+readable serial w t fit h =
+    record {
+      fit = fit;
+      settled = λ meant. settled t (h ∙ meant);
+      alone = λ other. h ∙ other;
+    }
+
+pub serial_of_outcome : (t : Tag) → serial_of (outcome t) ≡ serial_of t
+serial_of_outcome t = either (λ (u : Tag). serial_of u ≡ serial_of t) (is_active t) (moved (counting_to 0 t)) t refl refl
+
+pub serial_of_swept : (t : Tag) → serial_of (swept t) ≡ serial_of t
+serial_of_swept t = either (λ (u : Tag). serial_of u ≡ serial_of t) (is_due t) (moved (counting_to 0 t)) t refl refl
 
 -- What a sweep's commands do to each tag.
 pub select_each : Takes (order select) (λ t. Unit {0}) (Fit 0) swept is_due
