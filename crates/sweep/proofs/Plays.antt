@@ -1,5 +1,219 @@
--- x
-use Rattle.sweep.specs.Fates.{Fates}
-use Rattle.sweep.proofs.Tags.{is_active}
+-- A sweep, deed by deed, and what a whole one leaves and reports. Assumes nothing.
+use Rattle.std.proofs.Common.{◌≡◌, ℕ, ◌+◌, ◌-◌, ◌≤◌, Bool, false, cond, leb, eqb, List, [], ◌∷◌, ◌++◌, map, length, sym, refl, ap, ◌∙◌, ap₂, subst, ⊎_elim, arith}
+use Rattle.std.specs.List.{AllByRecursion}
+use Rattle.std.proofs.lemmas.Bool.{cond_both, eqb-true}
+use Rattle.std.proofs.lemmas.List.Elements.{All-map, recursion_from_All}
+use Rattle.protocol.specs.declared.command.Command.{Command}
+use Rattle.protocol.specs.declared.command.Command.TheVariants.{Select, Query, Scroll}
+use Rattle.frame.specs.Openings.{Opening}
+use Rattle.record.specs.declared.Tag.{Tag}
+use Rattle.record.specs.Records.{serial_of}
+use Rattle.tag.specs.Orders.{order}
+use Rattle.field.specs.declared.hearing.Hearing.{Hearing}
+use Rattle.field.specs.declared.hearing.Hearing.TheVariants.{Silence, Lone, Clash}
+use Rattle.field.specs.Airs.{Air, MayHear}
+use Rattle.field.specs.Sends.{stepped_all, on_air}
+use Rattle.slot.specs.Commands.{select, query, scroll, read}
+use Rattle.slot.specs.Rules.{Setting, Phase, fresh, in_silence, in_lone, in_clash, in_reading, ended, Play, beginning, Deed, stops, opens, lists, reads, closes, rests, commanding, opening_slot, coins_at, place_behind, deed_in, air_of, opened_by, read_by, done, went, may_hear, played, Heard}
+use Rattle.sweep.specs.Fates.{is_due, swept, times, due_serials, Distinct, Sized, EachOnce, Fated, Fates}
+use Rattle.sweep.proofs.Frames.{serial_heard}
+use Rattle.sweep.proofs.Tags.{is_active, is_left_by, has_turn, outcome, Fit, Readable, Unheard, Takes, Opens, select_each, query_each, scroll_each, read_each, select_heard, query_heard, scroll_heard}
+use Rattle.sweep.proofs.Crowds.{tally, turns, voices, tally-le, outcomes_after, all_after, active_after, air_after, all_of, tally_same, no_turn, no_turns, closed, none_active, lone, all_readable, apart, same_serials, AreSized, turns_sized, times_push}
+
+-- A sweep that goes on: what becomes of the tags is settled, each turn comes within the groups that wait, and what is
+-- due is listed or still active.
+pub record Between (before : List Tag) (waiting : ℕ) (serials : List (List ℕ)) (tags : List Tag) : Type 0 where
+  pub outcomes : map outcome tags ≡ map swept before
+  pub fits : AllByRecursion (Fit waiting) tags
+  pub counts : (serial : List ℕ) → times serial serials + tally is_active serial tags ≡ times serial (due_serials before)
+
+-- The same while a READ is not heard yet: its tag is listed, and counts no more.
+pub record Reading (before : List Tag) (waiting : ℕ) (serials : List (List ℕ)) (lone_one : List ℕ) (tags : List Tag) : Type 0 where
+  pub size : length lone_one ≡ 8
+  pub outcomes : map outcome tags ≡ map swept before
+  pub ready : AllByRecursion (Readable lone_one waiting) tags
+  pub counts : (serial : List ℕ) → times serial serials + tally (is_left_by lone_one) serial tags ≡ times serial (due_serials before)
+
+-- What holds in each phase.
+abbrev pub Stands : List Tag → Play → Phase → Type 0
+Stands before p fresh = (p.tags ≡ before) × (p.serials ≡ [])
+Stands before p in_silence = Between before p.waiting p.serials p.tags × (turns p.tags ≡ [])
+Stands before p (in_lone serial) = Between before p.waiting p.serials p.tags × (turns p.tags ≡ serial ∷ [])
+Stands before p in_clash = Between before p.waiting p.serials p.tags
+Stands before p (in_reading serial) = Reading before p.waiting p.serials serial p.tags
+Stands before p (ended n) = n ≡ 0 → Fated before p
+
+-- It holds after a deed, whatever may be heard.
+abbrev StandsAfter : List Tag → Hearing → Play → Deed → Type 0
+StandsAfter before h p d = MayHear (air_of d p.tags) h → Stands before (done d h p) (done d h p).phase
+
+stopped : (before : List Tag) (h : Hearing) (p : Play) (n : ℕ) → (n ≡ 0 → ⊥) → StandsAfter before h p (stops n)
+stopped before h p n k m = λ e. absurd (k e)
+
+within_budget : (before : List Tag) (set : Setting) (h : Hearing) (p : Play) (d : Deed) → StandsAfter before h p d → StandsAfter before h p (commanding set p d)
+within_budget before set h p d k =
+    cond_both (leb set.budget p.commands) (stops 8) d (StandsAfter before h p) (λ e. stopped before h p 8 (λ z. omega arith)) (λ e. k)
+
+within_room : (before : List Tag) (set : Setting) (h : Hearing) (p : Play) (d : Deed) → StandsAfter before h p d → StandsAfter before h p (opening_slot set p d)
+within_room before set h p d k =
+    within_budget before set h p (cond (leb set.slot_room (length p.slots)) (stops 9) d)
+    (cond_both (leb set.slot_room (length p.slots)) (stops 9) d (StandsAfter before h p) (λ e. stopped before h p 9 (λ z. omega arith)) (λ e. k))
+
+units : (tags : List Tag) → AllByRecursion (λ t. Unit {0}) tags
+units [] = tt
+units (t ∷ ts) = (tt, units ts)
+
+-- A slot, by the serial numbers that are replied.
+opened : (before : List Tag) (l : List (List ℕ)) (h : Hearing) (p : Play) → turns p.tags ≡ l → MayHear (voices l) h → AreSized l
+    → Between before p.waiting p.serials p.tags → Stands before p (opened_by h (voices l))
+opened before [] Silence p e m z b = (b, e)
+opened before [] Lone p e m z b = cc
+opened before [] Clash p e m z b = b
+opened before (s ∷ []) Silence p e m z b = ⊎_elim (λ x. cc) (λ x. cc) m
+opened before (s ∷ []) Lone p e m z b = subst (λ (x : List ℕ). Stands before p (in_lone x)) (sym (serial_heard s z.0)) (b, e)
+opened before (s ∷ []) Clash p e m z b = b
+opened before (s ∷ r ∷ rest) Silence p e m z b = cc
+opened before (s ∷ r ∷ rest) Lone p e m z b = cc
+opened before (s ∷ r ∷ rest) Clash p e m z b = b
+
+module _ (before : List Tag) (sized : AreSized (map serial_of before)) (distinct : Distinct before) where
+  sized_still : (tags : List Tag) → map outcome tags ≡ map swept before → AreSized (map serial_of tags)
+  sized_still tags e = subst AreSized (sym (same_serials tags before e)) sized
+
+  distinct_still : (tags : List Tag) → map outcome tags ≡ map swept before → Distinct tags
+  distinct_still tags e serial = subst (λ (l : List (List ℕ)). times serial l ≤ 1) (sym (same_serials tags before e)) (distinct serial)
+
+  slot : (c : Command) (frame : Opening) (row g next : ℕ) (h : Hearing) (p : Play) (Before : Tag → Type 0) (goal : Tag → Tag) (chosen : Tag → Bool)
+      → Takes (order frame) Before (Fit g) goal chosen → Opens (order frame) → AllByRecursion Before p.tags → map goal p.tags ≡ map swept before
+      → ((serial : List ℕ) → times serial p.serials + tally chosen serial p.tags ≡ times serial (due_serials before))
+      → StandsAfter before h p (opens c frame row g next)
+  slot c frame row g next h p Before goal chosen each heard all goals counts m =
+      let after : List Tag = stepped_all frame row p.tags in
+      let air : on_air frame row p.tags ≡ voices (turns after) = air_after frame heard row p.tags in
+      let outcomes : map outcome after ≡ map swept before = outcomes_after frame Before (Fit g) goal chosen each row p.tags all ∙ goals in
+      let b : Between before g p.serials after =
+      record {
+        outcomes = outcomes;
+        fits = all_after frame Before (Fit g) goal chosen each row p.tags all;
+        counts = λ serial.
+            ap (λ (n : ℕ). times serial p.serials + n) (active_after frame Before (Fit g) goal chosen each serial row p.tags all) ∙ counts serial;
+      } in
+      subst (λ (a : Air). Stands before (done (opens c frame row g next) h p) (opened_by h a)) (sym air)
+      (opened before (turns after) h (done (opens c frame row g next) h p) refl (subst (λ (a : Air). MayHear a h) air m)
+      (turns_sized after (sized_still after outcomes)) b)
+
+  -- A serial number that is listed.
+  listed : (serial : List ℕ) (h : Hearing) (p : Play) → Stands before p (in_lone serial) → StandsAfter before h p (lists serial)
+  listed serial h p (b, e) m =
+      let alone = lone serial p.tags e (distinct_still p.tags b.outcomes serial) in
+      record {
+        size = (subst AreSized e (turns_sized p.tags (sized_still p.tags b.outcomes))).0;
+        outcomes = b.outcomes;
+        ready = all_readable serial p.waiting p.tags b.fits alone;
+        counts = λ s.
+            let push = times_push s serial p.serials in
+            let parts = apart serial s p.tags alone in
+            let here : times s (turns p.tags) ≡ times s (serial ∷ []) = ap (times s) e in
+            let all = b.counts s in
+            omega arith;
+      }
+
+  -- A READ, by how it is heard.
+  module _ (serial : List ℕ) (p : Play) (r : Reading before p.waiting p.serials serial p.tags) where
+    abbrev after_read : List Tag
+    after_read = stepped_all (read serial) 0 p.tags
+
+    unheard : AllByRecursion (Unheard serial p.waiting) after_read
+    unheard =
+        all_after (read serial) (Readable serial p.waiting) (Unheard serial p.waiting) outcome (is_left_by serial) (read_each serial p.waiting r.size) 0 p.tags r.ready
+
+    read_outcomes : map outcome after_read ≡ map swept before
+    read_outcomes =
+        outcomes_after (read serial) (Readable serial p.waiting) (Unheard serial p.waiting) outcome (is_left_by serial) (read_each serial p.waiting r.size) 0 p.tags r.ready
+        ∙ r.outcomes
+
+    read_counts : (s : List ℕ) → times s p.serials + tally is_active s after_read ≡ times s (due_serials before)
+    read_counts s =
+        ap (λ (n : ℕ). times s p.serials + n)
+        (active_after (read serial) (Readable serial p.waiting) (Unheard serial p.waiting) outcome (is_left_by serial) (read_each serial p.waiting r.size) s 0 p.tags r.ready)
+        ∙ r.counts s
+
+    reading_on : Reading before p.waiting p.serials serial after_read
+    reading_on =
+        record {
+          size = r.size;
+          outcomes = read_outcomes;
+          ready = all_of (Unheard serial p.waiting) (Readable serial p.waiting) (λ t u. u.readable) after_read unheard;
+          counts = λ s.
+              ap (λ (n : ℕ). times s p.serials + n)
+              (tally_same (is_left_by serial) is_active s after_read
+              (all_of (Unheard serial p.waiting) (λ t. is_left_by serial t ≡ is_active t) (λ t u. u.left) after_read unheard))
+              ∙ read_counts s;
+        }
+
+    read_through : Between before p.waiting p.serials after_read × (turns after_read ≡ [])
+    read_through = (
+      record {
+        outcomes = read_outcomes;
+        fits = all_of (Unheard serial p.waiting) (Fit p.waiting) (λ t u. u.readable.fit) after_read unheard;
+        counts = read_counts;
+      },
+      no_turns after_read (all_of (Unheard serial p.waiting) (λ t. has_turn t ≡ false) (λ t u. u.silent) after_read unheard),
+    )
+
+    was_read : (h : Hearing) → Stands before (done (reads serial) h p) (read_by h serial)
+    was_read Silence = reading_on
+    was_read Lone = read_through
+    was_read Clash = reading_on
+
+  -- The closing REPEAT.
+  closing : (h : Hearing) (p : Play) → Stands before p in_silence → p.waiting ≡ 0 → Fated before (done closes h p)
+  closing h p (b, e) z =
+      let fits : AllByRecursion (Fit 0) p.tags = subst (λ (n : ℕ). AllByRecursion (Fit n) p.tags) z b.fits in
+      let none = no_turn p.tags e in
+      let same : (serial : List ℕ) → times serial p.serials ≡ times serial (due_serials before) =
+      λ serial. omega (arith, b.counts serial, none_active serial p.tags fits none) in
+      record {
+        tags = closed 0 p.tags fits none ∙ b.outcomes;
+        serials = record {
+          same = same;
+          once = λ serial. omega (arith, same serial, tally-le is_due serial before, distinct serial);
+        };
+      }
+
+  -- Each deed, by the phase.
+  deed : (set : Setting) (h : Hearing) (p : Play) (phase : Phase) → p.phase ≡ phase → Stands before p phase → StandsAfter before h p (deed_in set p phase)
+  deed set h p fresh e k =
+      within_room before set h p (opens Select select 0 0 0)
+      (slot Select select 0 0 0 h p (λ t. Unit {0}) swept is_due select_each select_heard (units p.tags) (ap (map swept) k.0)
+      (λ serial. ap₂ (λ (l : List (List ℕ)) (ts : List Tag). times serial l + tally is_due serial ts) k.1 k.0 ∙ omega arith))
+  deed set h p in_silence e k =
+      cond_both (eqb p.waiting 0) (commanding set p closes) (opening_slot set p (opens Scroll scroll 0 (p.waiting - 1) p.next)) (StandsAfter before h p)
+      (λ z. within_budget before set h p closes (λ m. λ zero. closing h p k (eqb-true p.waiting 0 z)))
+      (λ z. within_room before set h p (opens Scroll scroll 0 (p.waiting - 1) p.next)
+      (slot Scroll scroll 0 (p.waiting - 1) p.next h p (Fit p.waiting) outcome is_active (scroll_each p.waiting) scroll_heard k.0.fits k.0.outcomes k.0.counts))
+  deed set h p (in_lone serial) e k =
+      cond_both (leb set.serial_room (length p.serials)) (stops 9) (lists serial) (StandsAfter before h p) (λ z. stopped before h p 9 (λ x. omega arith))
+      (λ z. listed serial h p k)
+  deed set h p in_clash e k =
+      cond_both (eqb p.waiting 255) (stops 7)
+      (opening_slot set p (opens Query query (coins_at set.coins p.next) (p.waiting + 1) (place_behind set.coins p.next))) (StandsAfter before h p)
+      (λ z. stopped before h p 7 (λ x. omega arith))
+      (λ z. within_room before set h p (opens Query query (coins_at set.coins p.next) (p.waiting + 1) (place_behind set.coins p.next))
+      (slot Query query (coins_at set.coins p.next) (p.waiting + 1) (place_behind set.coins p.next) h p (Fit p.waiting) outcome is_active
+      (query_each p.waiting) query_heard k.fits k.outcomes k.counts))
+  deed set h p (in_reading serial) e k = within_budget before set h p (reads serial) (λ m. was_read serial p k h)
+  deed set h p (ended n) e k = λ m. subst (λ (phase : Phase). Stands before p phase) (sym e) k
+
+  pub deeds : (set : Setting) (hs : List Hearing) (p : Play) → Stands before p p.phase → Heard set hs p
+      → Stands before (played set hs p) (played set hs p).phase
+  unfolding played Heard went may_hear
+  deeds set [] p k heard = k
+  deeds set (h ∷ hs) p k heard = deeds set hs (went set h p) (deed set h p p.phase refl k heard.0) heard.1
+
 pub fates : Fates
-fates = ?
+fates set hs tags sized distinct heard e =
+    let serials : AreSized (map serial_of tags) =
+    recursion_from_All (λ (s : List ℕ). length s ≡ 8) (map serial_of tags) (All-map (λ (s : List ℕ). length s ≡ 8) serial_of tags sized) in
+    subst (λ (phase : Phase). Stands tags (played set hs (beginning tags)) phase) e
+    (deeds tags serials distinct set hs (beginning tags) (refl, refl) heard) refl
