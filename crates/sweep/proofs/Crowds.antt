@@ -1,22 +1,21 @@
 -- A list of tags in a sweep, command by command. Assumes nothing.
-use Rattle.std.proofs.Common.{◌≡◌, ℕ, ◌+◌, ◌/◌, ◌≤◌, Bool, true, false, cond, not, ◌&&◌, eqb, List, [], ◌∷◌, ◌++◌, map, length, Some, None, Option, sym, refl, ap, ◌∙◌, ap₂, subst, arith}
-use Rattle.std.specs.List.{count_by, filter, AllByRecursion}
+use Rattle.std.proofs.Common.{◌≡◌, ℕ, ◌+◌, ◌/◌, ◌≤◌, Bool, true, false, cond, not, ◌&&◌, eqb, List, [], ◌∷◌, ◌++◌, map, length, Some, None, Option, sym, refl, ap, ◌∙◌, ap₂, arith}
+use Rattle.std.specs.List.{filter, AllByRecursion}
 use Rattle.std.specs.Str.{bytes_eq}
-use Rattle.std.proofs.lemmas.Bool.{true≢false, and_left}
 use Rattle.std.proofs.lemmas.Slice.Eq.{bytes_eq-Decides}
 use Rattle.std.proofs.lemmas.List.Sums.{sum_by-cons, sum_by-append}
 use Rattle.crc.specs.Check.{sealed}
 use Rattle.frame.specs.Openings.{Opening}
 use Rattle.record.specs.declared.Tag.{Tag}
 use Rattle.record.specs.Records.{serial_of}
-use Rattle.tag.specs.Orders.{Order, order}
-use Rattle.tag.specs.Steps.{moved, is_meant, obeyed, answered, met, stepped}
+use Rattle.tag.specs.Orders.{order}
+use Rattle.tag.specs.Steps.{is_meant, stepped}
 use Rattle.reply.specs.Replies.{sounding}
 use Rattle.field.specs.Airs.{Air, silent, one, many, mixed, voice}
 use Rattle.field.specs.Sends.{first_coin, stepped_all, on_air}
 use Rattle.slot.specs.Commands.{again}
 use Rattle.sweep.specs.Fates.{times, swept}
-use Rattle.sweep.proofs.Tags.{is_active, has_turn, is_left_by, outcome, voiced, Fit, Readable, Unheard, Takes, Opens, not_active, readable, serial_of_outcome, serial_of_swept, again_each}
+use Rattle.sweep.proofs.Tags.{is_active, has_turn, is_left_by, outcome, Fit, Readable, Takes, Opens, not_active, readable, serial_of_outcome, serial_of_swept, again_each}
 
 -- How many of the tags that some test picks have a serial number.
 abbrev pub tally : (Tag → Bool) → List ℕ → List Tag → ℕ

@@ -1,5 +1,5 @@
 -- A sweep, deed by deed, and what a whole one leaves and reports. Assumes nothing.
-use Rattle.std.proofs.Common.{◌≡◌, ℕ, ◌+◌, ◌-◌, ◌≤◌, Bool, false, cond, leb, eqb, List, [], ◌∷◌, ◌++◌, map, length, sym, refl, ap, ◌∙◌, ap₂, subst, ⊎_elim, arith}
+use Rattle.std.proofs.Common.{◌≡◌, ℕ, ◌+◌, ◌-◌, ◌≤◌, Bool, false, cond, leb, eqb, List, [], ◌∷◌, map, length, sym, refl, ap, ◌∙◌, ap₂, subst, ⊎_elim, arith}
 use Rattle.std.specs.List.{AllByRecursion}
 use Rattle.std.proofs.lemmas.Bool.{cond_both, eqb-true}
 use Rattle.std.proofs.lemmas.List.Elements.{All-map, recursion_from_All}
@@ -14,8 +14,8 @@ use Rattle.field.specs.declared.hearing.Hearing.TheVariants.{Silence, Lone, Clas
 use Rattle.field.specs.Airs.{Air, MayHear}
 use Rattle.field.specs.Sends.{stepped_all, on_air}
 use Rattle.slot.specs.Commands.{select, query, scroll, read}
-use Rattle.slot.specs.Rules.{Setting, Phase, fresh, in_silence, in_lone, in_clash, in_reading, ended, Play, beginning, Deed, stops, opens, lists, reads, closes, rests, commanding, opening_slot, coins_at, place_behind, deed_in, air_of, opened_by, read_by, done, went, may_hear, played, Heard}
-use Rattle.sweep.specs.Fates.{is_due, swept, times, due_serials, Distinct, Sized, EachOnce, Fated, Fates}
+use Rattle.slot.specs.Rules.{Setting, Phase, fresh, in_silence, in_lone, in_clash, in_reading, ended, Play, beginning, Deed, stops, opens, lists, reads, closes, commanding, opening_slot, coins_at, place_behind, deed_in, air_of, opened_by, read_by, done, went, may_hear, played, Heard}
+use Rattle.sweep.specs.Fates.{is_due, swept, times, due_serials, Distinct, Fated, Fates}
 use Rattle.sweep.proofs.Frames.{serial_heard}
 use Rattle.sweep.proofs.Tags.{is_active, is_left_by, has_turn, outcome, Fit, Readable, Unheard, Takes, Opens, select_each, query_each, scroll_each, read_each, select_heard, query_heard, scroll_heard}
 use Rattle.sweep.proofs.Crowds.{tally, turns, voices, tally-le, outcomes_after, all_after, active_after, air_after, all_of, tally_same, no_turn, no_turns, closed, none_active, lone, all_readable, apart, same_serials, AreSized, turns_sized, times_push}

@@ -1,8 +1,7 @@
 -- One tag in a sweep, command by command. Assumes nothing.
 use Rattle.std.proofs.Common.{◌≡◌, ℕ, ◌+◌, ◌-◌, ◌≤◌, Bool, true, false, cond, not, ◌&&◌, ◌||◌, eqb, ltb, List, length, Some, None, Option, sym, refl, ap, ◌∙◌, subst, arith, eq-eqb}
-use Rattle.std.proofs.lemmas.Bool.{true≢false, and_right, and_parts, eqb-true}
-use Rattle.std.proofs.lemmas.Bool.Decides.{nat_tests}
-use Rattle.frame.specs.Openings.{Opening}
+use Rattle.std.proofs.lemmas.Bool.{true≢false, and_right, and_parts, eqb-true, cond_both}
+use Rattle.std.proofs.Math.Bool.{and-true}
 use Rattle.record.specs.declared.State.{State}
 use Rattle.record.specs.declared.State.TheVariants.{Ready, Singulation, Inventoried}
 use Rattle.record.specs.declared.WriteMark.{WriteMark}
@@ -82,13 +81,8 @@ fallen_twice Clear = refl
 fallen_twice Fading = refl
 fallen_twice Fresh = refl
 
-and_true : (a : Bool) → (a && true) ≡ a
-and_true true = refl
-and_true false = refl
-
 either : (P : Tag → Type 0) (b : Bool) (x y : Tag) → P x → P y → P (cond b x y)
-either P true x y h k = h
-either P false x y h k = k
+either P b x y h k = cond_both b x y P (λ e. h) (λ e. k)
 
 inactive : {X : Type 0} → false ≡ true → X
 inactive e = absurd (true≢false (sym e))
@@ -184,8 +178,7 @@ select_opens : Opens (orders.select 0x00 0xc0 word)
 select_opens coin t = selected_voiced t.memory t.locks t.identified t.counter t.mark t.permission t.state (matches t.memory 0x00 0xc0 word)
 
 at_most : (b : Bool) (x y n : ℕ) → x ≤ n → y ≤ n → cond b x y ≤ n
-at_most true x y n h k = h
-at_most false x y n h k = k
+at_most b x y n h k = cond_both b x y (λ z. z ≤ n) (λ e. h) (λ e. k)
 
 drawn-le : (coin : Bool) (n : ℕ) → drawn coin n ≤ n + 1
 drawn-le coin n =
@@ -228,7 +221,7 @@ module _ (serial : List ℕ) (w : ℕ) (t : Tag) (h : Readable serial w t) where
 
   read_active : (b : Bool) → is_meant t serial ≡ b → is_active (read_when b) ≡ is_left_by serial t
   read_active true e = sym (and_right (is_active t) (not (is_meant t serial)) (ap not e))
-  read_active false e = sym (ap (λ (b : Bool). is_active t && not b) e ∙ and_true (is_active t))
+  read_active false e = sym (ap (λ (b : Bool). is_active t && not b) e ∙ and-true (is_active t))
 
   read_unheard : (b : Bool) → is_meant t serial ≡ b → Unheard serial w (read_when b)
   read_unheard true e =
@@ -249,7 +242,7 @@ module _ (serial : List ℕ) (w : ℕ) (t : Tag) (h : Readable serial w t) where
           alone = h.alone;
         };
         silent = h.alone e;
-        left = ap (λ (b : Bool). is_active t && not b) e ∙ and_true (is_active t);
+        left = ap (λ (b : Bool). is_active t && not b) e ∙ and-true (is_active t);
       }
 
 read_takes : (serial : List ℕ) (w : ℕ) → Takes (orders.read serial 0x00 8) (Readable serial w) (Unheard serial w) outcome (is_left_by serial)

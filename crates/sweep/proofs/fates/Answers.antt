@@ -1,3 +1,4 @@
+-- The law is a lemma.
 use Rattle.sweep.proofs.Plays.{fates}
 use Rattle.sweep.proofs.fates.Goals as goal
 
