@@ -1,4 +1,9 @@
-pub mod Frames
-pub mod Tags
+pub mod Balances
 pub mod Crowds
+pub mod Deeds
+pub mod Ends
+pub mod Frames
 pub mod Plays
+pub mod Readings
+pub mod Rooms
+pub mod Tags
