@@ -1,9 +1,10 @@
 -- From moment to moment of a sweep: deeds one behind another, and what opening a slot comes to. Assumes nothing.
-use Rattle.std.proofs.Common.{◌≡◌, ◌⊎◌, inl, inr, ℕ, zero, suc, ◌+◌, ◌<◌, Bool, true, false, cond, not, ◌||◌, List, [], ◌∷◌, ◌++◌, length, Ok, Err, Result, sym, refl, ap, ap₂, ◌∙◌, subst, arith, leb, min}
+use Rattle.std.proofs.Common.{◌≡◌, ◌⊎◌, inl, inr, ℕ, zero, suc, ◌+◌, ◌-◌, eqb, Bool, true, false, cond, not, ◌||◌, List, [], ◌∷◌, ◌++◌, length, Ok, Err, Result, sym, refl, ap, ap₂, ◌∙◌, subst, arith, leb, min}
 use Rattle.std.proofs.lemmas.Bool.{true≢false, leb-false}
 use Rattle.std.proofs.lemmas.List.{length-append}
 use Rattle.std.specs.Prelude.{is_ok, IfOk, IfErr, OnErr, nat_le}
 use Rattle.protocol.specs.declared.command.Command.{Command}
+use Rattle.protocol.specs.declared.command.Command.TheVariants.{Scroll}
 use Rattle.frame.specs.Openings.{Opening}
 use Rattle.record.specs.declared.Tag.{Tag}
 use Rattle.rows.specs.declared.list.Rows.{Rows}
@@ -18,10 +19,11 @@ use Rattle.slot.specs.declared.ending.Stopped.{Stopped}
 use Rattle.slot.specs.declared.kinds.Stand.{Stand}
 use Rattle.slot.specs.declared.kinds.Slot.{Slot}
 use Rattle.slot.specs.declared.lists.Lists.{Lists}
-use Rattle.slot.specs.Countings.{stop_number, one_more, counted}
-use Rattle.slot.specs.Slots.{heard_in, stand_of, Opened}
-use Rattle.slot.specs.Rules.{Setting, Play, ended, opened_by, Deed, stops, opens, opening_slot, next_deed, air_of, done, went, may_hear, plain, played, Heard, replayed}
-use Rattle.slot.specs.Going.{Reaches, where_opened, Shows}
+use Rattle.slot.specs.Commands.{scroll, read}
+use Rattle.slot.specs.Countings.{sent_one, stop_number, one_more, counted}
+use Rattle.slot.specs.Slots.{standing, heard_in, stand_of, Opened}
+use Rattle.slot.specs.Rules.{Setting, Play, in_reading, reads, read_by, in_silence, deed_in, commanding, closes, ended, opened_by, Deed, stops, opens, opening_slot, next_deed, air_of, done, went, may_hear, plain, played, Heard, replayed}
+use Rattle.slot.specs.Going.{Reaches, where_opened, StandsAt, EndsAt, Shows}
 
 module _ (set : Setting) where
   heard_append : (hs ks : List Hearing) (p : Play) → Heard set hs p → Heard set ks (played set hs p) → Heard set (hs ++ ks) p
@@ -71,6 +73,12 @@ module _ (set : Setting) where
     pub reaches_stop : (p : Play) (n : ℕ) → next_deed set p ≡ stops n → Reaches faithful set p (done (stops n) Silence p)
     reaches_stop p n e = reaches_by p (stops n) Silence e refl (λ f. refl)
 
+-- Whatever is heard, the slot's command is counted.
+counted_commands : (h : Hearing) (c : Counts) → (counted h c).commands ≡ c.commands + 1
+counted_commands Silence c = refl
+counted_commands Lone c = refl
+counted_commands Clash c = refl
+
 neither : (a b : Bool) → true ≡ not (a || b) → (a ≡ false) × (b ≡ false)
 neither true b e = absurd (true≢false e)
 neither false true e = absurd (true≢false e)
@@ -80,6 +88,24 @@ either : (a b : Bool) → false ≡ not (a || b) → (a ≡ true) ⊎ ((a ≡ fa
 either true b e = inl refl
 either false true e = inr (refl, refl)
 either false false e = absurd (true≢false (sym e))
+
+-- What comes after silence, by whether groups wait.
+pub silent_deed : (set : Setting) (p : Play) (b : Bool) → p.phase ≡ in_silence → eqb p.waiting 0 ≡ b
+    → next_deed set p ≡ cond b (commanding set p closes) (opening_slot set p (opens Scroll scroll 0 (p.waiting - 1) p.next))
+silent_deed set p b e w =
+    ap (deed_in set p) e
+    ∙ ap (λ (x : Bool). cond x (commanding set p closes) (opening_slot set p (opens Scroll scroll 0 (p.waiting - 1) p.next))) w
+
+-- A command, by whether the budget is spent.
+pub budget_deed : (set : Setting) (p : Play) (d : Deed) (b : Bool) → nat_le set.budget p.commands ≡ b → commanding set p d ≡ cond b (stops 8) d
+budget_deed set p d b e = ap (λ (x : Bool). cond x (stops 8) d) e
+
+-- What a stop comes to: nothing has changed but that the sweep is over.
+pub stopped : (faithful : Bool) (set : Setting) (p : Play) (lists : Lists) (population : List Tag) (n : ℕ) (s : Stopped) → next_deed set p ≡ stops n
+    → stop_number s.stop ≡ n → p.commands ≡ s.counts.commands → p.slots ≡ rows_of lists.slots → p.serials ≡ rows_of lists.serials → p.tags ≡ population
+    → (q : Play) × Reaches faithful set p q × EndsAt (stop_number s.stop) s.counts lists population q
+stopped faithful set p lists population n s e en ec es el et =
+    (done (stops n) Silence p, reaches_stop set faithful p n e, record { phase = ap ended (sym en); commands = ec; slots = es; serials = el; tags = et })
 
 -- What opening a slot comes to, whatever comes of it.
 module _ (faithful : Bool) (set : Setting) (p : Play) (command : Command) (frame : Opening) (row : ℕ) (from : Stand) (before after : Lists) (tags_before tags_after : List Tag) where
@@ -94,20 +120,6 @@ module _ (faithful : Bool) (set : Setting) (p : Play) (command : Command) (frame
   module _ (eb : set.budget ≡ from.budget) (er : set.slot_room ≡ room_of before.slots) (ec : p.commands ≡ from.counts.commands)
       (es : p.slots ≡ rows_of before.slots) (el : p.serials ≡ rows_of before.serials) (et : p.tags ≡ tags_before)
       (next : next_deed set p ≡ opening_slot set p (opens command frame row from.waiting from.next)) where
-    stopped : (n : ℕ) (s : Stopped) → next_deed set p ≡ stops n → stop_number s.stop ≡ n → s.counts ≡ from.counts → tags_after ≡ tags_before → after ≡ before
-        → (q : Play) × Reaches faithful set p q × Shows (where_opened (Err s)) after tags_after q
-    stopped n s e en en2 same_tags same_lists = (
-      done (stops n) Silence p,
-      reaches_stop set faithful p n e,
-      record {
-        phase = ap ended (sym en);
-        commands = ec ∙ ap (λ (c : Counts). c.commands) (sym en2);
-        slots = es ∙ ap (λ (l : Lists). rows_of l.slots) (sym same_lists);
-        serials = el ∙ ap (λ (l : Lists). rows_of l.serials) (sym same_lists);
-        tags = et ∙ sym same_tags;
-      },
-    )
-
     opened_lem : (s : Slot) → next_deed set p ≡ opens command frame row from.waiting from.next
         → Opened faithful command frame row from before after tags_before tags_after s
         → (q : Play) × Reaches faithful set p q × Shows (where_opened (Ok s)) after tags_after q
@@ -120,7 +132,7 @@ module _ (faithful : Bool) (set : Setting) (p : Play) (command : Command) (frame
             phase = ap (opened_by (heard_in s)) air ∙ sym o.phase;
             waiting = ap (λ (x : Stand). x.waiting) (sym o.stand);
             next = ap (λ (x : Stand). x.next) (sym o.stand);
-            commands = ap (λ (n : ℕ). n + 1) ec ∙ sym o.commands;
+            commands = ap (λ (n : ℕ). n + 1) ec ∙ sym (ap (λ (x : Stand). x.counts.commands) o.stand ∙ counted_commands (heard_in s) from.counts);
             slots = ap (λ (rows : List SlotRow). rows ++ record { command = command; hearing = heard_in s; waiting = from.waiting } ∷ []) es ∙ sym o.slots;
             serials = el ∙ ap (λ (l : Rows (List ℕ)). rows_of l) (sym o.serials);
             tags = ap (stepped_all frame row) et ∙ sym o.tags;
@@ -139,12 +151,12 @@ module _ (faithful : Bool) (set : Setting) (p : Play) (command : Command) (frame
         o
     slot_opened (Err s) caught no_slot stop same =
         elim (either (nat_le from.budget from.counts.commands) (is_full before.slots) caught) [
-          | inl spent ↦ stopped 8 s
+          | inl spent ↦ stopped faithful set p after tags_after 8 s
               (next ∙ deed_by (opens command frame row from.waiting from.next) true (is_full before.slots) eb ec er es spent refl)
-              (stop.0 ∙ ap (λ (b : Bool). cond b 8 9) spent) stop.1 same.0 same.1
-          | inr full ↦ stopped 9 s
+              (stop.0 ∙ ap (λ (b : Bool). cond b 8 9) spent) (ec ∙ ap (λ (c : Counts). c.commands) (sym stop.1)) (es ∙ ap (λ (l : Lists). rows_of l.slots) (sym same.1)) (el ∙ ap (λ (l : Lists). rows_of l.serials) (sym same.1)) (et ∙ sym same.0)
+          | inr full ↦ stopped faithful set p after tags_after 9 s
               (next ∙ deed_by (opens command frame row from.waiting from.next) false true eb ec er es full.0 full.1)
-              (stop.0 ∙ ap (λ (b : Bool). cond b 8 9) full.0) stop.1 same.0 same.1
+              (stop.0 ∙ ap (λ (b : Bool). cond b 8 9) full.0) (ec ∙ ap (λ (c : Counts). c.commands) (sym stop.1)) (es ∙ ap (λ (l : Lists). rows_of l.slots) (sym same.1)) (el ∙ ap (λ (l : Lists). rows_of l.serials) (sym same.1)) (et ∙ sym same.0)
         ]
 
 -- A field that is as it was means what it meant.
@@ -152,3 +164,28 @@ pub still : {X : Type 0} (tags : X → List Tag) (x y : X) (before after : Lists
     → OnErr r ((tags y ≡ tags x) × (after ≡ before))
 still tags x y before after (Ok s) same = tt
 still tags x y before after (Err s) same = (ap tags same.0, same.1)
+
+-- The stand once one more command is sent.
+abbrev pub with_one : Stand → Stand
+with_one from = standing from.budget from.waiting from.next (sent_one from.counts)
+
+-- One READ, however it is heard.
+pub read_once : (faithful : Bool) (set : Setting) (p : Play) (serial : List ℕ) (from : Stand) (lists : Lists) (before after : List Tag) (h : Hearing)
+    → StandsAt (in_reading serial) from lists before p → nat_le set.budget p.commands ≡ false → MayHear (on_air (read serial) 0 before) h
+    → (faithful ≡ true → h ≡ plainly (on_air (read serial) 0 before)) → after ≡ stepped_all (read serial) 0 before
+    → (q : Play) × Reaches faithful set p q × StandsAt (read_by h serial) (with_one from) lists after q
+read_once faithful set p serial from lists before after h s less may only e = (
+  done (reads serial) h p,
+  reaches_by set faithful p (reads serial) h (ap (deed_in set p) s.phase ∙ budget_deed set p (reads serial) false less)
+      (subst (λ (ts : List Tag). MayHear (on_air (read serial) 0 ts) h) (sym s.tags) may)
+      (λ f. only f ∙ ap (λ (ts : List Tag). plainly (on_air (read serial) 0 ts)) (sym s.tags)),
+  record {
+    phase = refl;
+    waiting = s.waiting;
+    next = s.next;
+    commands = ap (λ (n : ℕ). n + 1) s.commands;
+    slots = s.slots;
+    serials = s.serials;
+    tags = ap (stepped_all (read serial) 0) s.tags ∙ sym e;
+  },
+)

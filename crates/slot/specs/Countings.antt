@@ -22,15 +22,16 @@ stop_name Deep = codes "deep"
 stop_name Spent = codes "spent"
 stop_name Full = codes "full"
 
--- One more in a count. It stays at 65,535, which a budget of at most so many commands never lets it pass.
+-- One slot more in a count. It stays at 65,535, which a budget of at most so many commands never lets it pass.
 abbrev pub one_more : ℕ → ℕ
 one_more n = min (n + 1) 65535
 
+-- The counts once one more command is sent.
 abbrev pub sent_one : Counts → Counts
-sent_one c = record { lone = c.lone; silent = c.silent; clash = c.clash; commands = one_more c.commands }
+sent_one c = record { lone = c.lone; silent = c.silent; clash = c.clash; commands = c.commands + 1 }
 
--- The counts once a command has opened a slot.
+-- And once it has opened a slot.
 abbrev pub counted : Hearing → Counts → Counts
-counted Silence c = record { lone = c.lone; silent = one_more c.silent; clash = c.clash; commands = one_more c.commands }
-counted Lone c = record { lone = one_more c.lone; silent = c.silent; clash = c.clash; commands = one_more c.commands }
-counted Clash c = record { lone = c.lone; silent = c.silent; clash = one_more c.clash; commands = one_more c.commands }
+counted Silence c = record { lone = c.lone; silent = one_more c.silent; clash = c.clash; commands = c.commands + 1 }
+counted Lone c = record { lone = one_more c.lone; silent = c.silent; clash = c.clash; commands = c.commands + 1 }
+counted Clash c = record { lone = c.lone; silent = c.silent; clash = one_more c.clash; commands = c.commands + 1 }

@@ -61,6 +61,10 @@ where_left (Ok (left.Next s)) = at_slot (phase_of s) (stand_of s)
 where_left (Ok (left.Whole counts)) = over 0 counts
 where_left (Err s) = over (stop_number s.stop) s.counts
 
+abbrev pub where_closed : Result Counts Stopped → Where
+where_closed (Ok counts) = over 0 counts
+where_closed (Err s) = over (stop_number s.stop) s.counts
+
 -- A moment of a sweep as a slot, the lists and the field have it.
 pub record StandsAt (at : Phase) (stand : Stand) (lists : Lists) (population : List Tag) (p : Play) : Type 0 where
   pub phase : p.phase ≡ at

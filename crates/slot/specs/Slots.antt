@@ -51,7 +51,6 @@ pub record Opened (faithful : Bool) (command : Command) (frame : Opening) (row :
   pub plain : faithful ≡ true → heard_in opened ≡ plainly (on_air frame row tags_before)
   pub phase : phase_of opened ≡ opened_by (heard_in opened) (on_air frame row tags_before)
   pub stand : stand_of opened ≡ standing from.budget from.waiting from.next (counted (heard_in opened) from.counts)
-  pub commands : (stand_of opened).counts.commands ≡ from.counts.commands + 1
   pub slots : rows_of after.slots ≡ rows_of before.slots ++ record { command = command; hearing = heard_in opened; waiting = from.waiting } ∷ []
   pub behind : Behind before.slots after.slots
   pub serials : after.serials ≡ before.serials

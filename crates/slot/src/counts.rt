@@ -1,5 +1,5 @@
 // What a sweep counts.
-ghost use Rattle.std.specs.Prelude.{◌≡◌};
+ghost use Rattle.std.specs.Prelude.{◌≡◌, ◌<◌};
 ghost use Rattle.slot.specs.Countings.{counted, sent_one};
 
 use field::hearing::Hearing;
@@ -25,18 +25,20 @@ impl Counts {
         }
     }
 
-    // One command more.
+    // One command more, where the budget has one left.
     pub(crate) fn with_command(self) -> Counts
+        requires { self.commands < 65535 }
         ensures { result ≡ sent_one self }
     {
         Counts {
-            commands: self.commands.saturating_add(1),
+            commands: self.commands + 1,
             ..self
         }
     }
 
     // One command more, and the slot that it opened.
     pub(crate) fn with_slot(self, hearing: Hearing) -> Counts
+        requires { self.commands < 65535 }
         ensures { result ≡ counted hearing self }
     {
         let counts = self.with_command();

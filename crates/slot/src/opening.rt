@@ -1,5 +1,5 @@
 // Sending a command that opens a slot.
-ghost use Rattle.std.specs.Prelude.{◌≡◌, ◌+◌, not, ◌||◌, length, is_ok, IfOk, IfErr, OnErr, if◌then◌else◌, nat_le};
+ghost use Rattle.std.specs.Prelude.{◌≡◌, ◌+◌, ◌<◌, false, not, ◌||◌, length, is_ok, IfOk, IfErr, OnErr, if◌then◌else◌, nat_le};
 ghost use Rattle.frame.specs.Openings.{opening};
 ghost use Rattle.protocol.specs.Commands.{length_of};
 ghost use Rattle.rows.specs.Filling.{is_full};
@@ -18,7 +18,8 @@ use protocol::command::Command;
 
 impl Stand {
     pub(crate) fn is_spent(self) -> bool
-        ensures { result ≡ nat_le self.budget self.counts.commands }
+        ensures test { result ≡ nat_le self.budget self.counts.commands }
+        ensures room { result ≡ false → self.counts.commands < 65535 }
     {
         self.counts.commands >= self.budget
     }
@@ -34,6 +35,7 @@ impl Stand {
 
     // The slot of an answer.
     fn opened(self, answer: Answer) -> Slot
+        requires { self.counts.commands < 65535 }
         ensures hearing { heard_in result ≡ answer.hearing }
         ensures phase { phase_of result ≡ phase_with answer.hearing answer.serial }
         ensures stand { stand_of result ≡ standing self.budget self.waiting self.next (counted answer.hearing self.counts) }

@@ -1,6 +1,6 @@
 // Working a sweep slot by slot.
-ghost use Rattle.std.specs.Prelude.{◌≡◌, ℕ, List, [], ◌<◌, ◌≤◌, length, IfOk, IfErr, OnErr, if◌then◌else◌, Some, None};
-ghost use Rattle.slot.specs.Going.{GoesOn, setting, where_opened, where_split, where_read, where_left, StandsAt, Shows, BothBehind, is_recorded, refused_by};
+ghost use Rattle.std.specs.Prelude.{◌≡◌, ℕ, ◌+◌, List, [], ◌<◌, ◌≤◌, length, IfOk, IfErr, OnErr, if◌then◌else◌, Some, None};
+ghost use Rattle.slot.specs.Going.{GoesOn, setting, where_opened, where_split, where_read, where_left, where_closed, StandsAt, Shows, BothBehind, is_recorded, refused_by};
 ghost use Rattle.slot.specs.Rules.{beginning, in_silence, in_lone, in_clash, in_reading};
 
 use crate::asking::ask;
@@ -72,11 +72,7 @@ impl SilentSlot {
         if stand.waiting == 0 {
             return Ok(Left::Whole(stand.close(field)?));
         }
-        let next = Stand {
-            waiting: stand.waiting - 1,
-            ..stand
-        };
-        Ok(Left::Next(open_slot(field, Command::Scroll, &[], 0, next, lists)?))
+        Ok(Left::Next(stand.scroll(field, lists)?))
     }
 }
 
@@ -129,6 +125,19 @@ impl Stand {
         open_slot(field, Command::Query, &[], coins[place], stand, lists)
     }
 
+    // Goes on to the next group that waits.
+    fn scroll<F: Field>(self, field: &mut F, lists: &mut Lists<'_>) -> Result<Slot, Stopped>
+        requires { 0 < self.waiting }
+        ensures rule { (coins : List ℕ) → GoesOn F.faithful (setting coins self.budget lists.old) (StandsAt in_silence self lists.old (F.tags field.old)) (Shows (where_opened result) lists.new (F.tags field.new)) }
+        ensures behind { BothBehind lists.old lists.new }
+    {
+        let stand = Stand {
+            waiting: self.waiting - 1,
+            ..self
+        };
+        open_slot(field, Command::Scroll, &[], 0, stand, lists)
+    }
+
     // Sends READ until a reply is heard as lone.
     fn read<F: Field>(self, field: &mut F, serial: &[u8]) -> Result<SilentSlot, Stopped>
         requires { length serial.now ≡ 8 }
@@ -148,7 +157,10 @@ impl Stand {
     }
 
     // Sends the closing REPEAT, which opens no slot.
-    fn close<F: Field>(self, field: &mut F) -> Result<Counts, Stopped> {
+    fn close<F: Field>(self, field: &mut F) -> Result<Counts, Stopped>
+        requires { self.waiting ≡ 0 }
+        ensures rule { (coins : List ℕ) (lists : Lists) → GoesOn F.faithful (setting coins self.budget lists) (StandsAt in_silence self lists (F.tags field.old)) (Shows (where_closed result) lists (F.tags field.new)) }
+    {
         if self.is_spent() {
             return Err(self.stopped(Stop::Spent));
         }

@@ -1,8 +1,37 @@
-use Rattle.std.proofs.Common.{◌≡◌, refl, arith}
+use Rattle.std.proofs.Common.{◌≡◌, ℕ, ◌+◌, cond, Bool, true, false, eqb, List, sym, refl, ap, ap₂, ◌∙◌}
+use Rattle.std.proofs.lemmas.Bool.{eq-eqb, ne_eqb, cond-true, cond-false}
+use Rattle.protocol.specs.declared.command.Command.TheVariants.{Query}
+use Rattle.slot.specs.Commands.{query}
+use Rattle.slot.specs.Going.{setting, StandsAt}
+use Rattle.slot.specs.declared.counts.Counts.{Counts}
+use Rattle.slot.specs.declared.ending.Stopped.{Stopped}
+use Rattle.slot.specs.declared.kinds.Stand.{Stand}
+use Rattle.slot.specs.Countings.{stop_number}
+use Rattle.slot.specs.Rules.{Setting, Play, Deed, Phase, in_clash, deed_in, next_deed, opening_slot, opens, stops, coins_at, place_behind}
+use Rattle.slot.proofs.Moves.{slot_opened, stopped, still}
 use Rattle.slot.proofs.kinds.Stand.split.Goals as goal
 
+-- What comes after a clash, by how many groups wait.
+clash_deed : (set : Setting) (p : Play) (b : Bool) → p.phase ≡ in_clash → eqb p.waiting 255 ≡ b
+    → next_deed set p ≡ cond b (stops 7) (opening_slot set p (opens Query query (coins_at set.coins p.next) (p.waiting + 1) (place_behind set.coins p.next)))
+clash_deed set p b e w =
+    ap (deed_in set p) e
+    ∙ ap (λ (x : Bool). cond x (stops 7) (opening_slot set p (opens Query query (coins_at set.coins p.next) (p.waiting + 1) (place_behind set.coins p.next)))) w
+
 pub returns-then-self-eq255-clause-rule : goal.returns-then-self-eq255-clause-rule
-returns-then-self-eq255-clause-rule g c = ?
+returns-then-self-eq255-clause-rule g c p s =
+    let set : Setting = setting c.args.coins.now c.args.self.budget c.args.lists.now in
+    stopped g.F.Field.faithful set p c.args.lists.now (g.F.Field.tags c.args.field.now) 7 c.stopped.result
+    (clash_deed set p true s.phase (eq-eqb p.waiting 255 (s.waiting ∙ c.if-self-eq255.true)))
+    (ap (λ (x : Stopped). stop_number x.stop) c.stopped.ensures) (s.commands ∙ ap (λ (x : Stopped). x.counts.commands) (sym c.stopped.ensures)) s.slots s.serials s.tags
 
 pub returns-clause-rule : goal.returns-clause-rule
-returns-clause-rule g c = ?
+unfolding query
+returns-clause-rule g c p s =
+    let set : Setting = setting c.args.coins.now c.args.self.budget c.args.lists.now in
+    slot_opened g.F.Field.faithful set p Query query (coins_at c.args.coins.now c.args.self.next) _ c.args.lists.now c.open_slot.new.lists (g.F.Field.tags c.args.field.now) (g.F.Field.tags c.open_slot.new.field)
+    refl refl s.commands s.slots s.serials s.tags
+    (clash_deed set p false s.phase (ne_eqb p.waiting 255 (λ e. c.if-self-eq255.false (sym s.waiting ∙ e)))
+    ∙ ap₂ (λ (w n : ℕ). opening_slot set p (opens Query query (coins_at set.coins n) (w + 1) (place_behind set.coins n))) s.waiting s.next)
+    c.open_slot.result c.open_slot.ensures.done c.open_slot.ensures.opened c.open_slot.ensures.stopped
+    (still g.F.Field.tags c.args.field.now c.open_slot.new.field c.args.lists.now c.open_slot.new.lists c.open_slot.result c.open_slot.ensures.same)
