@@ -1,6 +1,6 @@
 -- From moment to moment of a sweep: deeds one behind another, and what opening a slot comes to. Assumes nothing.
-use Rattle.std.proofs.Common.{◌≡◌, ◌⊎◌, inl, inr, ℕ, zero, suc, ◌+◌, ◌-◌, eqb, Bool, true, false, cond, not, ◌||◌, List, [], ◌∷◌, ◌++◌, length, Ok, Err, Result, sym, refl, ap, ap₂, ◌∙◌, subst, arith, leb, min}
-use Rattle.std.proofs.lemmas.Bool.{true≢false, leb-false}
+use Rattle.std.proofs.Common.{◌≡◌, ◌⊎◌, inl, inr, ℕ, zero, suc, ◌+◌, ◌-◌, eqb, Bool, true, false, cond, not, ◌||◌, List, [], ◌∷◌, ◌++◌, length, Ok, Err, Result, sym, refl, ap, ap₂, ◌∙◌, subst, arith}
+use Rattle.std.proofs.lemmas.Bool.{true≢false}
 use Rattle.std.proofs.lemmas.List.{length-append}
 use Rattle.std.specs.Prelude.{is_ok, IfOk, IfErr, OnErr, nat_le}
 use Rattle.protocol.specs.declared.command.Command.{Command}
@@ -20,8 +20,8 @@ use Rattle.slot.specs.declared.kinds.Stand.{Stand}
 use Rattle.slot.specs.declared.kinds.Slot.{Slot}
 use Rattle.slot.specs.declared.lists.Lists.{Lists}
 use Rattle.slot.specs.Commands.{scroll, read}
-use Rattle.slot.specs.Countings.{sent_one, stop_number, one_more, counted}
-use Rattle.slot.specs.Slots.{standing, heard_in, stand_of, Opened}
+use Rattle.slot.specs.Countings.{sent_one, stop_number, counted}
+use Rattle.slot.specs.Slots.{standing, heard_in, Opened}
 use Rattle.slot.specs.Rules.{Setting, Play, in_reading, reads, read_by, in_silence, deed_in, commanding, closes, ended, opened_by, Deed, stops, opens, opening_slot, next_deed, air_of, done, went, may_hear, plain, played, Heard, replayed}
 use Rattle.slot.specs.Going.{Reaches, where_opened, StandsAt, EndsAt, Shows}
 

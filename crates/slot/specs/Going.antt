@@ -1,5 +1,5 @@
 -- How the rule takes a sweep from one call to the next. Assumes nothing.
-use Rattle.std.specs.Prelude.{◌≡◌, ℕ, ◌-◌, Bool, true, false, cond, ◌&&◌, List, [], length, Some, None, Ok, Err, Option, Result, nat_le}
+use Rattle.std.specs.Prelude.{◌≡◌, ℕ, ◌≤◌, Bool, true, ◌&&◌, List, length, Some, None, Ok, Err, Option, Result, nat_le}
 use Rattle.protocol.specs.Refusals.{number_of}
 use Rattle.record.specs.declared.Tag.{Tag}
 use Rattle.rows.specs.Filling.{rows_of, room_of, Behind}
@@ -8,6 +8,7 @@ use Rattle.slot.specs.declared.counts.Counts.{Counts}
 use Rattle.slot.specs.declared.ending.Stopped.{Stopped}
 use Rattle.slot.specs.declared.kinds.Stand.{Stand}
 use Rattle.slot.specs.declared.kinds.Slot.{Slot}
+use Rattle.slot.specs.declared.kinds.ClashSlot.{ClashSlot}
 use Rattle.slot.specs.declared.kinds.SilentSlot.{SilentSlot}
 use Rattle.slot.specs.declared.kinds.Left.{Left}
 use Rattle.slot.specs.declared.kinds.Left.TheVariants as left
@@ -15,7 +16,7 @@ use Rattle.slot.specs.declared.kinds.Unsplit.{Unsplit}
 use Rattle.slot.specs.declared.kinds.Unsplit.TheVariants as unsplit
 use Rattle.slot.specs.declared.lists.Lists.{Lists}
 use Rattle.slot.specs.Countings.{stop_number, counted, sent_one}
-use Rattle.slot.specs.Rules.{Setting, Phase, Play, in_silence, in_clash, in_reading, ended, played, Heard, replayed}
+use Rattle.slot.specs.Rules.{Setting, Phase, Play, in_silence, in_clash, ended, played, Heard, replayed}
 use Rattle.slot.specs.Slots.{heard_in, phase_of, stand_of}
 
 -- From one moment of a sweep to a later one: by hearings such as may come, and where every lone reply is heard as lone,
@@ -87,10 +88,40 @@ abbrev pub Shows : Where → Lists → List Tag → Play → Type 0
 Shows (at_slot phase stand) = StandsAt phase stand
 Shows (over number counts) = EndsAt number counts
 
--- Slots are counted by what was heard as they opened: one more where a call has opened one, and none otherwise.
 abbrev pub counts_in : Where → Counts
 counts_in (at_slot phase stand) = stand.counts
 counts_in (over number counts) = counts
+
+-- A slot is counted as it opens, by what is heard then. Nothing else changes those counts.
+abbrev pub counts_opened : Counts → Result Slot Stopped → Counts
+counts_opened c (Ok s) = counted (heard_in s) c
+counts_opened c (Err s) = c
+
+abbrev pub counts_split : Counts → Result Slot Unsplit → Counts
+counts_split c (Ok s) = counted (heard_in s) c
+counts_split c (Err e) = c
+
+abbrev pub counts_left : Counts → Result Left Stopped → Counts
+counts_left c (Ok (left.Next s)) = counted (heard_in s) c
+counts_left c (Ok (left.Whole n)) = sent_one c
+counts_left c (Err s) = c
+
+abbrev pub counts_closed : Counts → Result Counts Stopped → Counts
+counts_closed c (Ok n) = sent_one c
+counts_closed c (Err s) = c
+
+-- READs are commands, and no slots.
+abbrev pub counts_read : Counts → ℕ → Counts
+counts_read c commands = record { lone = c.lone; silent = c.silent; clash = c.clash; commands = commands }
+
+-- No slot and no command yet.
+abbrev pub no_counts : Counts
+no_counts = record { lone = 0; silent = 0; clash = 0; commands = 0 }
+
+-- A slot that a call opens, or leaves open, keeps the sweep's budget and is within it.
+abbrev pub IsWithin : ℕ → Where → Type 0
+IsWithin budget (at_slot phase stand) = (stand.budget ≡ budget) × (stand.counts.commands ≤ budget)
+IsWithin budget (over number counts) = Unit {0}
 
 -- Both lists before and after a call.
 pub record BothBehind (before after : Lists) : Type 0 where
@@ -105,3 +136,9 @@ abbrev pub refused_by : Result Slot Unsplit → Option ℕ
 refused_by (Ok s) = None
 refused_by (Err (unsplit.Refused d)) = Some (number_of d.refusal)
 refused_by (Err (unsplit.Stopped s)) = None
+
+-- A split that is refused hands its slot back, and changes nothing.
+abbrev pub handed_back : {F : Type 0} → Result Slot Unsplit → ClashSlot → (before after : F) → Lists → Lists → Type 0
+handed_back (Ok s) slot before after lists lists_after = Unit {0}
+handed_back (Err (unsplit.Refused d)) slot before after lists lists_after = (d.given ≡ slot) × (after ≡ before) × (lists_after ≡ lists)
+handed_back (Err (unsplit.Stopped s)) slot before after lists lists_after = Unit {0}

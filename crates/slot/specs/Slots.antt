@@ -1,23 +1,20 @@
 -- What slots, answers and stops say, by numbers and in the words of the rule. Assumes nothing.
-use Rattle.std.specs.Prelude.{◌≡◌, ℕ, ◌+◌, ◌≤◌, min, Bool, true, false, List, [], ◌∷◌, ◌++◌, length, Ok, Err, Result}
+use Rattle.std.specs.Prelude.{◌≡◌, ℕ, Bool, true, List, [], ◌∷◌, ◌++◌}
 use Rattle.protocol.specs.declared.command.Command.{Command}
 use Rattle.frame.specs.Openings.{Opening}
 use Rattle.record.specs.declared.Tag.{Tag}
-use Rattle.rows.specs.Filling.{rows_of, room_of, Behind}
+use Rattle.rows.specs.Filling.{rows_of, Behind}
 use Rattle.field.specs.declared.hearing.Hearing.{Hearing}
 use Rattle.field.specs.declared.hearing.Hearing.TheVariants as hearing
 use Rattle.field.specs.Airs.{MayHear, plainly}
 use Rattle.field.specs.Sends.{stepped_all, on_air}
 use Rattle.slot.specs.declared.counts.Counts.{Counts}
-use Rattle.slot.specs.declared.ending.Stop.{Stop}
-use Rattle.slot.specs.declared.ending.Stop.TheVariants as stop
-use Rattle.slot.specs.declared.ending.Stopped.{Stopped}
 use Rattle.slot.specs.declared.kinds.Stand.{Stand}
 use Rattle.slot.specs.declared.kinds.Slot.{Slot}
 use Rattle.slot.specs.declared.kinds.Slot.TheVariants as slot
 use Rattle.slot.specs.declared.lists.Lists.{Lists}
 use Rattle.slot.specs.Countings.{counted}
-use Rattle.slot.specs.Rules.{Setting, Phase, Play, in_silence, in_lone, in_clash, ended, opened_by}
+use Rattle.slot.specs.Rules.{Phase, in_silence, in_lone, in_clash, opened_by}
 
 -- The hearing that a slot opened with.
 abbrev pub heard_in : Slot → Hearing

@@ -1,6 +1,6 @@
 // Working a sweep slot by slot.
-ghost use Rattle.std.specs.Prelude.{◌≡◌, ℕ, ◌+◌, List, [], ◌<◌, ◌≤◌, length, IfOk, IfErr, OnErr, if◌then◌else◌, Some, None};
-ghost use Rattle.slot.specs.Going.{GoesOn, setting, where_opened, where_split, where_read, where_left, where_closed, StandsAt, Shows, BothBehind, is_recorded, refused_by};
+ghost use Rattle.std.specs.Prelude.{◌≡◌, ℕ, ◌+◌, List, [], ◌<◌, ◌≤◌, length, IfOk, IfErr, OnErr, OnOk, if◌then◌else◌, Some, None};
+ghost use Rattle.slot.specs.Going.{GoesOn, setting, where_opened, where_split, where_read, where_left, where_closed, StandsAt, Shows, BothBehind, IsWithin, counts_in, counts_opened, counts_split, counts_left, counts_closed, counts_read, no_counts, handed_back, is_recorded, refused_by};
 ghost use Rattle.slot.specs.Rules.{beginning, in_silence, in_lone, in_clash, in_reading};
 
 use crate::asking::ask;
@@ -27,6 +27,8 @@ const WANTED: [u8; 10] = [0x00, 0xc0, 0xef, 0x04, 0, 0, 0, 0, 0, 0];
 pub fn open<F: Field>(field: &mut F, budget: u16, lists: &mut Lists<'_>) -> Result<Slot, Stopped>
     ensures rule { (coins : List ℕ) → GoesOn F.faithful (setting coins budget lists.old) (λ p. p ≡ beginning (F.tags field.old)) (Shows (where_opened result) lists.new (F.tags field.new)) }
     ensures behind { BothBehind lists.old lists.new }
+    ensures counts { counts_in (where_opened result) ≡ counts_opened no_counts result }
+    ensures within { OnOk result (IsWithin budget (where_opened result)) }
 {
     lists.slots.clear();
     lists.serials.clear();
@@ -50,6 +52,9 @@ impl ClashSlot {
         ensures refusal { refused_by result ≡ (if is_recorded coins.now then None else Some 10) }
         ensures rule { GoesOn F.faithful (setting coins.now self.stand.budget lists.old) (StandsAt in_clash self.stand lists.old (F.tags field.old)) (Shows (where_split result) lists.new (F.tags field.new)) }
         ensures behind { BothBehind lists.old lists.new }
+        ensures counts { counts_in (where_split result) ≡ counts_split self.stand.counts result }
+        ensures within { OnOk result (IsWithin self.stand.budget (where_split result)) }
+        ensures back { handed_back result self field.old field.new lists.old lists.new }
     {
         if coins.is_empty() || coins.len() > MOST_ROWS {
             return Err(Unsplit::Refused(Declined {
@@ -67,6 +72,8 @@ impl SilentSlot {
     pub fn leave<F: Field>(self, field: &mut F, lists: &mut Lists<'_>) -> Result<Left, Stopped>
         ensures rule { (coins : List ℕ) → GoesOn F.faithful (setting coins self.stand.budget lists.old) (StandsAt in_silence self.stand lists.old (F.tags field.old)) (Shows (where_left result) lists.new (F.tags field.new)) }
         ensures behind { BothBehind lists.old lists.new }
+        ensures counts { counts_in (where_left result) ≡ counts_left self.stand.counts result }
+        ensures within { OnOk result (IsWithin self.stand.budget (where_left result)) }
     {
         let SilentSlot { stand } = self;
         if stand.waiting == 0 {
@@ -81,6 +88,8 @@ impl LoneSlot {
     pub fn read<F: Field>(self, field: &mut F, lists: &mut Lists<'_>) -> Result<SilentSlot, Stopped>
         ensures rule { (coins : List ℕ) → GoesOn F.faithful (setting coins self.stand.budget lists.old) (StandsAt (in_lone self.serial) self.stand lists.old (F.tags field.old)) (Shows (where_read result) lists.new (F.tags field.new)) }
         ensures behind { BothBehind lists.old lists.new }
+        ensures counts { counts_in (where_read result) ≡ counts_read self.stand.counts (counts_in (where_read result)).commands }
+        ensures within { OnOk result (IsWithin self.stand.budget (where_read result)) }
     {
         let LoneSlot { stand, serial } = self;
         if lists.serials.push(serial).is_err() {
@@ -112,6 +121,8 @@ impl Stand {
         requires { 0 < length coins.now }
         ensures rule { GoesOn F.faithful (setting coins.now self.budget lists.old) (StandsAt in_clash self lists.old (F.tags field.old)) (Shows (where_opened result) lists.new (F.tags field.new)) }
         ensures behind { BothBehind lists.old lists.new }
+        ensures counts { counts_in (where_opened result) ≡ counts_opened self.counts result }
+        ensures within { OnOk result (IsWithin self.budget (where_opened result)) }
     {
         if self.waiting == u8::MAX {
             return Err(self.stopped(Stop::Deep));
@@ -130,6 +141,8 @@ impl Stand {
         requires { 0 < self.waiting }
         ensures rule { (coins : List ℕ) → GoesOn F.faithful (setting coins self.budget lists.old) (StandsAt in_silence self lists.old (F.tags field.old)) (Shows (where_opened result) lists.new (F.tags field.new)) }
         ensures behind { BothBehind lists.old lists.new }
+        ensures counts { counts_in (where_opened result) ≡ counts_opened self.counts result }
+        ensures within { OnOk result (IsWithin self.budget (where_opened result)) }
     {
         let stand = Stand {
             waiting: self.waiting - 1,
@@ -142,6 +155,8 @@ impl Stand {
     fn read<F: Field>(self, field: &mut F, serial: &[u8]) -> Result<SilentSlot, Stopped>
         requires { length serial.now ≡ 8 }
         ensures rule { (coins : List ℕ) (lists : Lists) → GoesOn F.faithful (setting coins self.budget lists) (StandsAt (in_reading serial.now) self lists (F.tags field.old)) (Shows (where_read result) lists (F.tags field.new)) }
+        ensures counts { counts_in (where_read result) ≡ counts_read self.counts (counts_in (where_read result)).commands }
+        ensures within { OnOk result (IsWithin self.budget (where_read result)) }
     {
         let mut target = [0; SERIAL + 1];
         target[..SERIAL].copy_from_slice(serial);
@@ -160,6 +175,7 @@ impl Stand {
     fn close<F: Field>(self, field: &mut F) -> Result<Counts, Stopped>
         requires { self.waiting ≡ 0 }
         ensures rule { (coins : List ℕ) (lists : Lists) → GoesOn F.faithful (setting coins self.budget lists) (StandsAt in_silence self lists (F.tags field.old)) (Shows (where_closed result) lists (F.tags field.new)) }
+        ensures counts { counts_in (where_closed result) ≡ counts_closed self.counts result }
     {
         if self.is_spent() {
             return Err(self.stopped(Stop::Spent));

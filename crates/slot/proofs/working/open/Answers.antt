@@ -1,6 +1,5 @@
-use Rattle.std.proofs.Common.{◌≡◌, ℕ, List, sym, refl, ap, ◌∙◌, length, MutBor}
+use Rattle.std.proofs.Common.{List, sym, refl, ap, ◌∙◌, length, MutBor}
 use Rattle.slot.specs.declared.row.SlotRow.{SlotRow}
-use Rattle.rows.specs.Filling.{rows_of, room_of}
 use Rattle.protocol.specs.declared.command.Command.TheVariants.{Select}
 use Rattle.slot.specs.Commands.{select}
 use Rattle.slot.specs.Going.{setting}

@@ -1,13 +1,8 @@
-use Rattle.std.proofs.Common.{rules, ◌≡◌, ℕ, Bool, true, false, cond, not, List, [], ◌∷◌, ◌++◌, length, Ok, Err, Result, sym, refl, ap, ap₂, ◌∙◌, subst}
-use Rattle.std.proofs.lemmas.Bool.{true≢false}
+use Rattle.std.proofs.Common.{rules, ◌≡◌, ℕ, Bool, true, false, cond, List, [], ◌∷◌, ◌++◌, length, sym, refl, ap, ◌∙◌, subst}
 use Rattle.std.specs.Prelude.{nat_le}
-use Rattle.record.specs.declared.Tag.{Tag}
-use Rattle.rows.specs.declared.list.Rows.{Rows}
 use Rattle.rows.specs.Filling.{rows_of, room_of, is_full, and_row}
 use Rattle.field.specs.declared.hearing.Hearing.TheVariants.{Silence}
-use Rattle.slot.specs.declared.row.SlotRow.{SlotRow}
 use Rattle.slot.specs.declared.ending.Stopped.{Stopped}
-use Rattle.slot.specs.declared.kinds.Stand.{Stand}
 use Rattle.slot.specs.declared.lists.Lists.{Lists}
 use Rattle.slot.specs.Countings.{stop_number}
 use Rattle.slot.specs.Going.{setting, Reaches, StandsAt}

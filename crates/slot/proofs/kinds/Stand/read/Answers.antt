@@ -6,14 +6,15 @@ use Rattle.record.specs.declared.Tag.{Tag}
 use Rattle.field.specs.Airs.{MayHear, plainly}
 use Rattle.field.specs.Sends.{stepped_all, on_air}
 use Rattle.slot.specs.Countings.{stop_number}
+use Rattle.slot.specs.declared.counts.Counts.{Counts}
 use Rattle.slot.specs.declared.ending.Stopped.{Stopped}
 use Rattle.slot.specs.declared.kinds.Stand.{Stand}
 use Rattle.slot.specs.declared.lists.Lists.{Lists}
 use Rattle.protocol.specs.declared.command.Command.TheVariants.{Read}
 use Rattle.field.specs.declared.hearing.Hearing.{Hearing}
 use Rattle.field.specs.declared.hearing.Hearing.TheVariants.{Silence, Lone, Clash}
-use Rattle.slot.specs.Commands.{frame_of, target, read}
-use Rattle.slot.specs.Going.{setting, Reaches, StandsAt}
+use Rattle.slot.specs.Commands.{frame_of, read}
+use Rattle.slot.specs.Going.{setting, Reaches, StandsAt, counts_read}
 use Rattle.slot.specs.Rules.{Setting, Play, Phase, in_reading, read_by, reads, deed_in}
 use Rattle.slot.proofs.Moves.{reaches_self, reaches_more, read_once, with_one, stopped, budget_deed}
 use Rattle.slot.proofs.kinds.Stand.read.Goals as goal
@@ -30,6 +31,7 @@ loop-sent-init g c =
       budget = refl;
       waiting = refl;
       next = refl;
+      counts = refl;
       commands = refl;
       rule = λ coins lists p s. (p, reaches_self (setting coins c.args.self.budget lists) g.F.Field.faithful p, s);
     }
@@ -74,20 +76,25 @@ told_by faithful set p at to from sent lists after e n was = (
   },
 )
 
-pub returns-then-eq : goal.returns-then-eq
-returns-then-eq g c =
-    record {
-      rule = λ coins lists p s.
-          let set : Setting = setting coins c.args.self.budget lists in
-          let stand : Stand = c.loop-sent.stand in
-          let lone : c.ask-answer.result.hearing ≡ Lone = search rules in
-          let room : c.loop-sent.sent < c.args.self.budget = omega arith in
-          told_by g.F.Field.faithful set p _ _ stand c.loop-sent.sent lists _ (ap (λ (h : Hearing). read_by h c.args.serial.now) lone) c.loop-sent.invariant.commands
-          (next_read g.F.Field.faithful set p c.args.serial.now c.copy_from_slice.new.self stand lists (g.F.Field.tags c.loop-sent.field) (g.F.Field.tags c.ask-answer.new.field)
-          c.ask-answer.result.hearing (c.loop-sent.invariant.rule coins lists p s) c.copy_from_slice.ensures.after
-          (ap (nat_le c.args.self.budget) c.loop-sent.invariant.commands ∙ lt-leb c.args.self.budget c.loop-sent.sent room) c.ask-answer.ensures.hearing
-          c.ask-answer.ensures.faithful c.ask-answer.ensures.tags);
-    }
+pub returns-then-eq-clause-rule : goal.returns-then-eq-clause-rule
+returns-then-eq-clause-rule g c coins lists p s =
+    let set : Setting = setting coins c.args.self.budget lists in
+    let stand : Stand = c.loop-sent.stand in
+    let lone : c.ask-answer.result.hearing ≡ Lone = search rules in
+    let room : c.loop-sent.sent < c.args.self.budget = omega arith in
+    told_by g.F.Field.faithful set p _ _ stand c.loop-sent.sent lists _ (ap (λ (h : Hearing). read_by h c.args.serial.now) lone) c.loop-sent.invariant.commands
+    (next_read g.F.Field.faithful set p c.args.serial.now c.copy_from_slice.new.self stand lists (g.F.Field.tags c.loop-sent.field) (g.F.Field.tags c.ask-answer.new.field)
+    c.ask-answer.result.hearing (c.loop-sent.invariant.rule coins lists p s) c.copy_from_slice.ensures.after
+    (ap (nat_le c.args.self.budget) c.loop-sent.invariant.commands ∙ lt-leb c.args.self.budget c.loop-sent.sent room) c.ask-answer.ensures.hearing
+    c.ask-answer.ensures.faithful c.ask-answer.ensures.tags)
+
+pub returns-then-eq-clause-counts : goal.returns-then-eq-clause-counts
+returns-then-eq-clause-counts g c = ap (λ (k : Counts). counts_read k (c.loop-sent.sent + 1)) c.loop-sent.invariant.counts
+
+pub returns-clause-counts : goal.returns-clause-counts
+returns-clause-counts g c =
+    let same : c.stopped.result.counts ≡ c.loop-sent.stand.counts = ap (λ (x : Stopped). x.counts) c.stopped.ensures in
+    same ∙ c.loop-sent.invariant.counts ∙ ap (λ (k : Counts). counts_read c.args.self.counts k.commands) (sym same)
 
 pub loop-sent-preserved : goal.loop-sent-preserved
 loop-sent-preserved g c =
@@ -95,6 +102,7 @@ loop-sent-preserved g c =
       budget = c.loop-sent.invariant.budget;
       waiting = c.loop-sent.invariant.waiting;
       next = c.loop-sent.invariant.next;
+      counts = ap (λ (k : Counts). counts_read k (c.loop-sent.sent + 1)) c.loop-sent.invariant.counts;
       commands = refl;
       rule = λ coins lists p s.
           let set : Setting = setting coins c.args.self.budget lists in
@@ -108,18 +116,15 @@ loop-sent-preserved g c =
           c.ask-answer.ensures.faithful c.ask-answer.ensures.tags);
     }
 
-pub returns : goal.returns
-returns g c =
-    record {
-      rule = λ coins lists p s.
-          let set : Setting = setting coins c.args.self.budget lists in
-          let was = c.loop-sent.invariant.rule coins lists p s in
-          let past : c.args.self.budget ≤ c.loop-sent.sent = omega arith in
-          let over = stopped g.F.Field.faithful set was.0 lists (g.F.Field.tags c.loop-sent.field) 8 c.stopped.result
-          (ap (deed_in set was.0) was.2.phase
-          ∙ budget_deed set was.0 (reads c.args.serial.now) true
-          (ap (nat_le c.args.self.budget) (was.2.commands ∙ c.loop-sent.invariant.commands) ∙ le-leb c.args.self.budget c.loop-sent.sent past))
-          (ap (λ (x : Stopped). stop_number x.stop) c.stopped.ensures) (was.2.commands ∙ ap (λ (x : Stopped). x.counts.commands) (sym c.stopped.ensures)) was.2.slots
-          was.2.serials was.2.tags in
-          (over.0, reaches_more set g.F.Field.faithful p was.0 over.0 was.1 over.1, over.2);
-    }
+pub returns-clause-rule : goal.returns-clause-rule
+returns-clause-rule g c coins lists p s =
+    let set : Setting = setting coins c.args.self.budget lists in
+    let was = c.loop-sent.invariant.rule coins lists p s in
+    let past : c.args.self.budget ≤ c.loop-sent.sent = omega arith in
+    let over = stopped g.F.Field.faithful set was.0 lists (g.F.Field.tags c.loop-sent.field) 8 c.stopped.result
+    (ap (deed_in set was.0) was.2.phase
+    ∙ budget_deed set was.0 (reads c.args.serial.now) true
+    (ap (nat_le c.args.self.budget) (was.2.commands ∙ c.loop-sent.invariant.commands) ∙ le-leb c.args.self.budget c.loop-sent.sent past))
+    (ap (λ (x : Stopped). stop_number x.stop) c.stopped.ensures) (was.2.commands ∙ ap (λ (x : Stopped). x.counts.commands) (sym c.stopped.ensures)) was.2.slots
+    was.2.serials was.2.tags in
+    (over.0, reaches_more set g.F.Field.faithful p was.0 over.0 was.1 over.1, over.2)

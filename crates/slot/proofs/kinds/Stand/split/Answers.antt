@@ -1,13 +1,11 @@
-use Rattle.std.proofs.Common.{◌≡◌, ℕ, ◌+◌, cond, Bool, true, false, eqb, List, sym, refl, ap, ap₂, ◌∙◌}
-use Rattle.std.proofs.lemmas.Bool.{eq-eqb, ne_eqb, cond-true, cond-false}
+use Rattle.std.proofs.Common.{◌≡◌, ℕ, ◌+◌, cond, Bool, true, false, eqb, sym, refl, ap, ap₂, ◌∙◌}
+use Rattle.std.proofs.lemmas.Bool.{eq-eqb, ne_eqb}
 use Rattle.protocol.specs.declared.command.Command.TheVariants.{Query}
 use Rattle.slot.specs.Commands.{query}
-use Rattle.slot.specs.Going.{setting, StandsAt}
-use Rattle.slot.specs.declared.counts.Counts.{Counts}
+use Rattle.slot.specs.Going.{setting}
 use Rattle.slot.specs.declared.ending.Stopped.{Stopped}
-use Rattle.slot.specs.declared.kinds.Stand.{Stand}
 use Rattle.slot.specs.Countings.{stop_number}
-use Rattle.slot.specs.Rules.{Setting, Play, Deed, Phase, in_clash, deed_in, next_deed, opening_slot, opens, stops, coins_at, place_behind}
+use Rattle.slot.specs.Rules.{Setting, Play, in_clash, deed_in, next_deed, opening_slot, opens, stops, coins_at, place_behind}
 use Rattle.slot.proofs.Moves.{slot_opened, stopped, still}
 use Rattle.slot.proofs.kinds.Stand.split.Goals as goal
 
