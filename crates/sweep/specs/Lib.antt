@@ -1,2 +1,3 @@
 pub mod Fates
 pub mod Tallies
+pub mod Whole

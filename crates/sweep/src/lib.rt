@@ -1,17 +1,28 @@
-// Whole sweeps.
+// A reader's whole sweep of a field.
 #![tactic(auto)]
 
-ghost use Rattle.sweep.specs.Fates.{Fates};
-ghost use Rattle.sweep.specs.Tallies.{Keeps, Completes, ReadsOnce, Settles, Ends};
+ghost use Rattle.std.specs.Prelude.{◌≡◌, IfOk, OnErr, if◌then◌else◌, Some, None};
+ghost use Rattle.rows.specs.Filling.{rows_of};
+ghost use Rattle.slot.specs.Going.{setting, BothBehind, is_recorded};
+ghost use Rattle.sweep.specs.Whole.{Outcome, Swept, Lawful, refused_by};
 
-fn tallies()
-    ensures keeps { Keeps }
-    ensures completes { Completes }
-    ensures once { ReadsOnce }
-    ensures settles { Settles }
-    ensures ends { Ends }
-{}
+use field::field::Field;
+use protocol::refusal::Refusal;
+use slot::ending::Report;
+use slot::lists::Lists;
 
-fn fates()
-    ensures { Fates }
-{}
+// Sweeps a field: splits each clash and reads each lone tag, until the sweep is whole or stopped.
+pub fn sweep<F: Field>(
+    field: &mut F,
+    coins: &[u64],
+    budget: u16,
+    lists: &mut Lists<'_>,
+) -> Result<Report, Refusal>
+    ensures refusal { refused_by result ≡ (if is_recorded coins.now then None else Some 10) }
+    ensures same { OnErr result ((field.new ≡ field.old) × (lists.new ≡ lists.old)) }
+    ensures rule { IfOk result (λ r. Swept F.faithful (setting coins.now budget lists.old) (F.tags field.old) (record { report = r; slots = rows_of lists.new.slots; serials = rows_of lists.new.serials; tags = F.tags field.new })) }
+    ensures laws { IfOk result (λ r. Lawful F.faithful (setting coins.now budget lists.old) (F.tags field.old) (record { report = r; slots = rows_of lists.new.slots; serials = rows_of lists.new.serials; tags = F.tags field.new })) }
+    ensures behind { BothBehind lists.old lists.new }
+{
+    Err(Refusal::Coins)
+}
