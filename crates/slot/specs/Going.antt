@@ -1,9 +1,12 @@
 -- How the rule takes a sweep from one call to the next. Assumes nothing.
-use Rattle.std.specs.Prelude.{◌≡◌, ℕ, ◌≤◌, Bool, true, ◌&&◌, List, length, Some, None, Ok, Err, Option, Result, nat_le}
+use Rattle.std.specs.Prelude.{◌≡◌, ℕ, ◌≤◌, Bool, true, ◌&&◌, List, ◌∷◌, [], ◌++◌, length, Some, None, Ok, Err, Option, Result, nat_le}
 use Rattle.protocol.specs.Refusals.{number_of}
 use Rattle.record.specs.declared.Tag.{Tag}
 use Rattle.rows.specs.Filling.{rows_of, room_of, Behind}
 use Rattle.field.specs.declared.hearing.Hearing.{Hearing}
+use Rattle.protocol.specs.declared.command.Command.{Command}
+use Rattle.protocol.specs.declared.command.Command.TheVariants.{Query, Scroll}
+use Rattle.slot.specs.declared.row.SlotRow.{SlotRow}
 use Rattle.slot.specs.declared.counts.Counts.{Counts}
 use Rattle.slot.specs.declared.ending.Stopped.{Stopped}
 use Rattle.slot.specs.declared.kinds.Stand.{Stand}
@@ -113,6 +116,23 @@ counts_closed c (Err s) = c
 -- READs are commands, and no slots.
 abbrev pub counts_read : Counts → ℕ → Counts
 counts_read c commands = record { lone = c.lone; silent = c.silent; clash = c.clash; commands = commands }
+
+-- A slot is listed as it opens.
+abbrev pub row_of : Command → Slot → SlotRow
+row_of command s = record { command = command; hearing = heard_in s; waiting = (stand_of s).waiting }
+
+abbrev pub rows_opened : Command → List SlotRow → Result Slot Stopped → List SlotRow
+rows_opened command rows (Ok s) = rows ++ row_of command s ∷ []
+rows_opened command rows (Err s) = rows
+
+abbrev pub rows_split : List SlotRow → Result Slot Unsplit → List SlotRow
+rows_split rows (Ok s) = rows ++ row_of Query s ∷ []
+rows_split rows (Err e) = rows
+
+abbrev pub rows_left : List SlotRow → Result Left Stopped → List SlotRow
+rows_left rows (Ok (left.Next s)) = rows ++ row_of Scroll s ∷ []
+rows_left rows (Ok (left.Whole n)) = rows
+rows_left rows (Err s) = rows
 
 -- No slot and no command yet.
 abbrev pub no_counts : Counts

@@ -1,6 +1,7 @@
 // Working a sweep slot by slot.
 ghost use Rattle.std.specs.Prelude.{◌≡◌, ℕ, ◌+◌, List, [], ◌<◌, ◌≤◌, length, IfOk, IfErr, OnErr, OnOk, if◌then◌else◌, Some, None};
-ghost use Rattle.slot.specs.Going.{GoesOn, setting, where_opened, where_split, where_read, where_left, where_closed, StandsAt, Shows, BothBehind, IsWithin, counts_in, counts_opened, counts_split, counts_left, counts_closed, counts_read, no_counts, handed_back, is_recorded, refused_by};
+ghost use Rattle.rows.specs.Filling.{rows_of, is_full, and_row};
+ghost use Rattle.slot.specs.Going.{GoesOn, setting, where_opened, where_split, where_read, where_left, where_closed, StandsAt, Shows, BothBehind, IsWithin, counts_in, counts_opened, counts_split, counts_left, counts_closed, counts_read, rows_opened, rows_split, rows_left, no_counts, handed_back, is_recorded, refused_by};
 ghost use Rattle.slot.specs.Rules.{beginning, in_silence, in_lone, in_clash, in_reading};
 
 use crate::asking::ask;
@@ -29,6 +30,8 @@ pub fn open<F: Field>(field: &mut F, budget: u16, lists: &mut Lists<'_>) -> Resu
     ensures behind { BothBehind lists.old lists.new }
     ensures counts { counts_in (where_opened result) ≡ counts_opened no_counts result }
     ensures within { OnOk result (IsWithin budget (where_opened result)) }
+    ensures slots { rows_of lists.new.slots ≡ rows_opened Command.Select [] result }
+    ensures serials { rows_of lists.new.serials ≡ [] }
 {
     lists.slots.clear();
     lists.serials.clear();
@@ -54,6 +57,8 @@ impl ClashSlot {
         ensures behind { BothBehind lists.old lists.new }
         ensures counts { counts_in (where_split result) ≡ counts_split self.stand.counts result }
         ensures within { OnOk result (IsWithin self.stand.budget (where_split result)) }
+        ensures slots { rows_of lists.new.slots ≡ rows_split (rows_of lists.old.slots) result }
+        ensures serials { lists.new.serials ≡ lists.old.serials }
         ensures back { handed_back result self field.old field.new lists.old lists.new }
     {
         if coins.is_empty() || coins.len() > MOST_ROWS {
@@ -74,6 +79,8 @@ impl SilentSlot {
         ensures behind { BothBehind lists.old lists.new }
         ensures counts { counts_in (where_left result) ≡ counts_left self.stand.counts result }
         ensures within { OnOk result (IsWithin self.stand.budget (where_left result)) }
+        ensures slots { rows_of lists.new.slots ≡ rows_left (rows_of lists.old.slots) result }
+        ensures serials { lists.new.serials ≡ lists.old.serials }
     {
         let SilentSlot { stand } = self;
         if stand.waiting == 0 {
@@ -90,6 +97,8 @@ impl LoneSlot {
         ensures behind { BothBehind lists.old lists.new }
         ensures counts { counts_in (where_read result) ≡ counts_read self.stand.counts (counts_in (where_read result)).commands }
         ensures within { OnOk result (IsWithin self.stand.budget (where_read result)) }
+        ensures slots { lists.new.slots ≡ lists.old.slots }
+        ensures serials { rows_of lists.new.serials ≡ and_row (is_full lists.old.serials) (rows_of lists.old.serials) self.serial }
     {
         let LoneSlot { stand, serial } = self;
         if lists.serials.push(serial).is_err() {
@@ -123,6 +132,8 @@ impl Stand {
         ensures behind { BothBehind lists.old lists.new }
         ensures counts { counts_in (where_opened result) ≡ counts_opened self.counts result }
         ensures within { OnOk result (IsWithin self.budget (where_opened result)) }
+        ensures slots { rows_of lists.new.slots ≡ rows_opened Command.Query (rows_of lists.old.slots) result }
+        ensures serials { lists.new.serials ≡ lists.old.serials }
     {
         if self.waiting == u8::MAX {
             return Err(self.stopped(Stop::Deep));
@@ -143,6 +154,8 @@ impl Stand {
         ensures behind { BothBehind lists.old lists.new }
         ensures counts { counts_in (where_opened result) ≡ counts_opened self.counts result }
         ensures within { OnOk result (IsWithin self.budget (where_opened result)) }
+        ensures slots { rows_of lists.new.slots ≡ rows_opened Command.Scroll (rows_of lists.old.slots) result }
+        ensures serials { lists.new.serials ≡ lists.old.serials }
     {
         let stand = Stand {
             waiting: self.waiting - 1,
