@@ -23,7 +23,7 @@ use Rattle.slot.specs.Commands.{scroll, read}
 use Rattle.slot.specs.Countings.{sent_one, stop_number, counted}
 use Rattle.slot.specs.Slots.{standing, heard_in, Opened}
 use Rattle.slot.specs.Rules.{Setting, Play, in_reading, reads, read_by, in_silence, deed_in, commanding, closes, ended, opened_by, Deed, stops, opens, opening_slot, next_deed, air_of, done, went, may_hear, plain, played, Heard, replayed}
-use Rattle.slot.specs.Going.{Reaches, where_opened, StandsAt, EndsAt, Shows}
+use Rattle.slot.specs.Going.{setting, Where, Reaches, where_opened, StandsAt, EndsAt, Shows}
 
 module _ (set : Setting) where
   heard_append : (hs ks : List Hearing) (p : Play) → Heard set hs p → Heard set ks (played set hs p) → Heard set (hs ++ ks) p
@@ -189,3 +189,18 @@ read_once faithful set p serial from lists before after h s less may only e = (
     tags = ap (stepped_all (read serial) 0) s.tags ∙ sym e;
   },
 )
+
+-- A sweep that is led to somewhere.
+abbrev pub Led : Bool → Setting → Play → Where → Lists → List Tag → Type 0
+Led faithful set p w lists population = (q : Play) × Reaches faithful set p q × Shows w lists population q
+
+-- And from there to somewhere else, by a call that is lent as much.
+pub led_on : (faithful : Bool) (set later : Setting) (p q : Play) (w : Where) (lists : Lists) (population : List Tag) → Reaches faithful set p q → later ≡ set
+    → Led faithful later q w lists population → Led faithful set p w lists population
+led_on faithful set later p q w lists population first e rest =
+    (rest.0, reaches_more set faithful p q rest.0 first (subst (λ (x : Setting). Reaches faithful x q rest.0) e rest.1), rest.2)
+
+-- What a call is lent is the same before and after it.
+pub setting_same : (coins : List ℕ) (b c : ℕ) (before after : Lists) → c ≡ b → room_of after.slots ≡ room_of before.slots → room_of after.serials ≡ room_of before.serials
+    → setting coins c after ≡ setting coins b before
+setting_same coins b c before after eb es el i = record { coins = coins; budget = eb i; slot_room = es i; serial_room = el i }

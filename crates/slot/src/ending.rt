@@ -1,5 +1,6 @@
 // How a sweep ends.
 ghost use Rattle.std.specs.Prelude.{◌≡◌, Some};
+ghost use Rattle.slot.specs.declared.ending.End.TheVariants as end;
 ghost use Rattle.slot.specs.Countings.{stop_number, end_number, stop_name};
 
 use crate::counts::Counts;
@@ -67,4 +68,15 @@ impl End {
 pub struct Report {
     pub end: End,
     pub counts: Counts,
+}
+
+impl From<Stopped> for Report {
+    ghost from_gives = { λ stopped report. report ≡ record { end = end.Stopped stopped.stop; counts = stopped.counts } };
+
+    fn from(stopped: Stopped) -> Report {
+        Report {
+            end: End::Stopped(stopped.stop),
+            counts: stopped.counts,
+        }
+    }
 }

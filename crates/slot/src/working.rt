@@ -97,6 +97,7 @@ impl LoneSlot {
         ensures behind { BothBehind lists.old lists.new }
         ensures counts { counts_in (where_read result) ≡ counts_read self.stand.counts (counts_in (where_read result)).commands }
         ensures within { OnOk result (IsWithin self.stand.budget (where_read result)) }
+        ensures sent { IfOk result (λ s. self.stand.counts.commands < s.stand.counts.commands) }
         ensures slots { lists.new.slots ≡ lists.old.slots }
         ensures serials { rows_of lists.new.serials ≡ and_row (is_full lists.old.serials) (rows_of lists.old.serials) self.serial }
     {
@@ -170,6 +171,7 @@ impl Stand {
         ensures rule { (coins : List ℕ) (lists : Lists) → GoesOn F.faithful (setting coins self.budget lists) (StandsAt (in_reading serial.now) self lists (F.tags field.old)) (Shows (where_read result) lists (F.tags field.new)) }
         ensures counts { counts_in (where_read result) ≡ counts_read self.counts (counts_in (where_read result)).commands }
         ensures within { OnOk result (IsWithin self.budget (where_read result)) }
+        ensures sent { IfOk result (λ s. self.counts.commands < s.stand.counts.commands) }
     {
         let mut target = [0; SERIAL + 1];
         target[..SERIAL].copy_from_slice(serial);

@@ -7,3 +7,4 @@ pub mod Plays
 pub mod Readings
 pub mod Rooms
 pub mod Tags
+pub mod Walks

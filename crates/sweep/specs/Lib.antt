@@ -1,3 +1,4 @@
 pub mod Fates
+pub mod Steps
 pub mod Tallies
 pub mod Whole

@@ -6,10 +6,17 @@ ghost use Rattle.rows.specs.Filling.{rows_of};
 ghost use Rattle.slot.specs.Going.{setting, BothBehind, is_recorded};
 ghost use Rattle.sweep.specs.Whole.{Outcome, Swept, Lawful, refused_by};
 
+mod measuring;
+mod working;
+
 use field::field::Field;
+use measuring::measure;
 use protocol::refusal::Refusal;
-use slot::ending::Report;
+use slot::ending::{End, Report};
+use slot::kinds::Unsplit;
 use slot::lists::Lists;
+use slot::working::MOST_ROWS;
+use working::work;
 
 // Sweeps a field: splits each clash and reads each lone tag, until the sweep is whole or stopped.
 pub fn sweep<F: Field>(
@@ -24,5 +31,16 @@ pub fn sweep<F: Field>(
     ensures laws { IfOk result (λ r. Lawful F.faithful (setting coins.now budget lists.old) (F.tags field.old) (record { report = r; slots = rows_of lists.new.slots; serials = rows_of lists.new.serials; tags = F.tags field.new })) }
     ensures behind { BothBehind lists.old lists.new }
 {
-    Err(Refusal::Coins)
+    if coins.is_empty() || coins.len() > MOST_ROWS {
+        return Err(Refusal::Coins);
+    }
+    measure(field);
+    match work(field, coins, budget, lists) {
+        Ok(counts) => Ok(Report {
+            end: End::Whole,
+            counts,
+        }),
+        Err(Unsplit::Stopped(stopped)) => Ok(Report::from(stopped)),
+        Err(Unsplit::Refused(declined)) => Err(declined.refusal),
+    }
 }

@@ -1,0 +1,109 @@
+-- From slot to slot of a sweep: what each step adds to those before it. Assumes nothing.
+use Rattle.std.proofs.Common.{◌≡◌, ℕ, ◌+◌, ◌-◌, ◌<◌, ◌≤◌, Bool, List, [], ◌∷◌, ◌++◌, length, drop, sym, refl, ap, ◌∙◌, subst, arith}
+use Rattle.std.proofs.lemmas.List.{length-append, drop-drop}
+use Rattle.record.specs.declared.Tag.{Tag}
+use Rattle.rows.specs.declared.list.Rows.{Rows}
+use Rattle.rows.specs.Filling.{rows_of, room_of, Behind}
+use Rattle.field.specs.declared.hearing.Hearing.{Hearing}
+use Rattle.slot.specs.declared.row.SlotRow.{SlotRow}
+use Rattle.slot.specs.declared.kinds.Stand.{Stand}
+use Rattle.slot.specs.declared.lists.Lists.{Lists}
+use Rattle.slot.specs.Going.{Reaches, GoesOn, setting, Where, at_slot, over, StandsAt, Shows, BothBehind}
+use Rattle.slot.specs.Rules.{Setting, Phase, Play, Deed, stops, opens, lists, reads, closes, rests, beginning, next_deed, done, went, played}
+use Rattle.slot.proofs.Moves.{led_on, setting_same}
+use Rattle.sweep.proofs.Rooms.{keeps}
+
+-- Lists only grow.
+slots_grow : (d : Deed) (h : Hearing) (p : Play) → length p.slots ≤ length (done d h p).slots
+slots_grow (stops n) h p = omega arith
+slots_grow (opens c frame row g next) h p = omega (arith, length-append p.slots (record { command = c; hearing = h; waiting = g } ∷ []))
+slots_grow (lists serial) h p = omega arith
+slots_grow (reads serial) h p = omega arith
+slots_grow closes h p = omega arith
+slots_grow rests h p = omega arith
+
+serials_grow : (d : Deed) (h : Hearing) (p : Play) → length p.serials ≤ length (done d h p).serials
+serials_grow (stops n) h p = omega arith
+serials_grow (opens c frame row g next) h p = omega arith
+serials_grow (lists serial) h p = omega (arith, length-append p.serials (serial ∷ []))
+serials_grow (reads serial) h p = omega arith
+serials_grow closes h p = omega arith
+serials_grow rests h p = omega arith
+
+slots_played : (set : Setting) (hs : List Hearing) (p : Play) → length p.slots ≤ length (played set hs p).slots
+unfolding played went
+slots_played set [] p = omega arith
+slots_played set (h ∷ hs) p = omega (arith, slots_grow (next_deed set p) h p, slots_played set hs (done (next_deed set p) h p))
+
+serials_played : (set : Setting) (hs : List Hearing) (p : Play) → length p.serials ≤ length (played set hs p).serials
+unfolding played went
+serials_played set [] p = omega arith
+serials_played set (h ∷ hs) p = omega (arith, serials_grow (next_deed set p) h p, serials_played set hs (done (next_deed set p) h p))
+
+behind_more : {T : Type 0} (a b c : Rows T) → Behind a b → Behind b c → length (rows_of b) ≤ length (rows_of c) → Behind a c
+behind_more a b c first second more =
+    let n : ℕ = length (rows_of b) in
+    let k : ℕ = length (rows_of c) - n in
+    let e : n + k ≡ length (rows_of c) = omega arith in
+    record {
+      storage = second.storage ∙ ap (λ (m : ℕ). drop m b.storage.now) (sym e) ∙ sym (drop-drop k n b.storage.now) ∙ ap (drop k) first.storage
+          ∙ drop-drop k n a.storage.now ∙ ap (λ (m : ℕ). drop m a.storage.now) e;
+      room = second.room ∙ first.room;
+      lender = second.lender ∙ first.lender;
+    }
+
+shown_slots : (w : Where) (l : Lists) (population : List Tag) (p : Play) → Shows w l population p → p.slots ≡ rows_of l.slots
+shown_slots (at_slot phase stand) l population p s = s.slots
+shown_slots (over n counts) l population p s = s.slots
+
+shown_serials : (w : Where) (l : Lists) (population : List Tag) (p : Play) → Shows w l population p → p.serials ≡ rows_of l.serials
+shown_serials (at_slot phase stand) l population p s = s.serials
+shown_serials (over n counts) l population p s = s.serials
+
+module _ (faithful : Bool) (coins : List ℕ) (budget : ℕ) (first : Lists) (before : List Tag) where
+  -- A sweep that has come somewhere from its beginning.
+  abbrev pub Come : Where → Lists → List Tag → Type 0
+  Come w l population = GoesOn faithful (setting coins budget first) (λ p. p ≡ beginning before) (Shows w l population)
+
+  -- It keeps to the budget, and so its slots are few.
+  pub few : (w : Where) (l : Lists) (population : List Tag) → Come w l population → length (rows_of l.slots) ≤ budget
+  few w l population come =
+      let q = come (beginning before) refl in
+      let kept = keeps (setting coins budget first) q.1.hearings before in
+      let same : rows_of l.slots ≡ (played (setting coins budget first) q.1.hearings (beginning before)).slots =
+      sym (shown_slots w l population q.0 q.2) ∙ ap (λ (p : Play). p.slots) q.1.there in
+      omega (arith, ap length same, kept.opened, kept.budget)
+
+  module _ (phase : Phase) (stand : Stand) (now : Lists) (population : List Tag) (come : Come (at_slot phase stand) now population) (same : stand.budget ≡ budget)
+      (behind : BothBehind first now) (w : Where) (later : Lists) (left : List Tag)
+      (next : GoesOn faithful (setting coins stand.budget now) (StandsAt phase stand now population) (Shows w later left)) where
+    pub come_on : Come w later left
+    come_on p e =
+        let q = come p e in
+        led_on faithful (setting coins budget first) (setting coins stand.budget now) p q.0 w later left q.1
+        (setting_same coins budget stand.budget first now same behind.slots.room behind.serials.room) (next q.0 q.2)
+
+    pub behind_on : BothBehind now later → BothBehind first later
+    behind_on more =
+        let q = come (beginning before) refl in
+        let r = next q.0 q.2 in
+        let slots : length (rows_of now.slots) ≤ length (rows_of later.slots) =
+        omega (
+          arith,
+          ap length q.2.slots,
+          ap length (shown_slots w later left r.0 r.2),
+          ap (λ (p : Play). length p.slots) r.1.there,
+          slots_played (setting coins stand.budget now) r.1.hearings q.0,
+        ) in
+        let serials : length (rows_of now.serials) ≤ length (rows_of later.serials) =
+        omega (
+          arith,
+          ap length q.2.serials,
+          ap length (shown_serials w later left r.0 r.2),
+          ap (λ (p : Play). length p.serials) r.1.there,
+          serials_played (setting coins stand.budget now) r.1.hearings q.0,
+        ) in
+        record {
+          slots = behind_more first.slots now.slots later.slots behind.slots more.slots slots;
+          serials = behind_more first.serials now.serials later.serials behind.serials more.serials serials;
+        }

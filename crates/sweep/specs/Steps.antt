@@ -1,0 +1,42 @@
+-- One step of a whole sweep: what is done with the slot that is open. Assumes nothing.
+use Rattle.std.specs.Prelude.{◌≡◌, ℕ, ◌+◌, ◌≤◌, ◌<◌, Bool, true, false, List, length, Ok, Err, Result}
+use Rattle.field.specs.declared.hearing.Hearing.TheVariants.{Silence, Lone, Clash}
+use Rattle.slot.specs.declared.row.SlotRow.{SlotRow}
+use Rattle.slot.specs.declared.counts.Counts.{Counts}
+use Rattle.slot.specs.declared.kinds.Left.{Left}
+use Rattle.slot.specs.declared.kinds.Left.TheVariants as left
+use Rattle.slot.specs.declared.kinds.Unsplit.{Unsplit}
+use Rattle.slot.specs.declared.kinds.Unsplit.TheVariants as unsplit
+use Rattle.slot.specs.Countings.{stop_number}
+use Rattle.slot.specs.Going.{Where, at_slot, over}
+use Rattle.slot.specs.Rules.{in_clash}
+use Rattle.slot.specs.Slots.{phase_of, stand_of}
+use Rattle.sweep.specs.Tallies.{heard_as}
+
+abbrev pub where_gone : Result Left Unsplit → Where
+where_gone (Ok (left.Next s)) = at_slot (phase_of s) (stand_of s)
+where_gone (Ok (left.Whole counts)) = over 0 counts
+where_gone (Err (unsplit.Refused d)) = at_slot in_clash d.given.stand
+where_gone (Err (unsplit.Stopped s)) = over (stop_number s.stop) s.counts
+
+abbrev pub where_worked : Result Counts Unsplit → Where
+where_worked (Ok counts) = over 0 counts
+where_worked (Err (unsplit.Refused d)) = at_slot in_clash d.given.stand
+where_worked (Err (unsplit.Stopped s)) = over (stop_number s.stop) s.counts
+
+-- Whether an answer is a refusal.
+abbrev pub is_refused : {X : Type 0} → Result X Unsplit → Bool
+is_refused (Ok x) = false
+is_refused (Err (unsplit.Refused d)) = true
+is_refused (Err (unsplit.Stopped s)) = false
+
+-- The counts are those of the rows.
+pub record Tallied (counts : Counts) (rows : List SlotRow) : Type 0 where
+  pub lone : counts.lone ≡ heard_as Lone rows
+  pub silent : counts.silent ≡ heard_as Silence rows
+  pub clash : counts.clash ≡ heard_as Clash rows
+
+-- Where a sweep goes on, it has sent more commands.
+abbrev pub HasSent : ℕ → Where → Type 0
+HasSent commands (at_slot phase stand) = commands < stand.counts.commands
+HasSent commands (over number counts) = Unit {0}
