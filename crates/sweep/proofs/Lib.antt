@@ -3,6 +3,7 @@ pub mod Crowds
 pub mod Deeds
 pub mod Ends
 pub mod Frames
+pub mod Outcomes
 pub mod Plays
 pub mod Readings
 pub mod Rooms

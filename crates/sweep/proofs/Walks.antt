@@ -1,14 +1,13 @@
 -- From slot to slot of a sweep: what each step adds to those before it. Assumes nothing.
-use Rattle.std.proofs.Common.{◌≡◌, ℕ, ◌+◌, ◌-◌, ◌<◌, ◌≤◌, Bool, List, [], ◌∷◌, ◌++◌, length, drop, sym, refl, ap, ◌∙◌, subst, arith}
+use Rattle.std.proofs.Common.{◌≡◌, ℕ, ◌+◌, ◌-◌, ◌≤◌, Bool, List, [], ◌∷◌, length, drop, sym, refl, ap, ◌∙◌, arith}
 use Rattle.std.proofs.lemmas.List.{length-append, drop-drop}
 use Rattle.record.specs.declared.Tag.{Tag}
 use Rattle.rows.specs.declared.list.Rows.{Rows}
-use Rattle.rows.specs.Filling.{rows_of, room_of, Behind}
+use Rattle.rows.specs.Filling.{rows_of, Behind}
 use Rattle.field.specs.declared.hearing.Hearing.{Hearing}
-use Rattle.slot.specs.declared.row.SlotRow.{SlotRow}
 use Rattle.slot.specs.declared.kinds.Stand.{Stand}
 use Rattle.slot.specs.declared.lists.Lists.{Lists}
-use Rattle.slot.specs.Going.{Reaches, GoesOn, setting, Where, at_slot, over, StandsAt, Shows, BothBehind}
+use Rattle.slot.specs.Going.{GoesOn, setting, Where, at_slot, over, StandsAt, Shows, BothBehind}
 use Rattle.slot.specs.Rules.{Setting, Phase, Play, Deed, stops, opens, lists, reads, closes, rests, beginning, next_deed, done, went, played}
 use Rattle.slot.proofs.Moves.{led_on, setting_same}
 use Rattle.sweep.proofs.Rooms.{keeps}

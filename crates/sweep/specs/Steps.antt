@@ -1,5 +1,5 @@
 -- One step of a whole sweep: what is done with the slot that is open. Assumes nothing.
-use Rattle.std.specs.Prelude.{◌≡◌, ℕ, ◌+◌, ◌≤◌, ◌<◌, Bool, true, false, List, length, Ok, Err, Result}
+use Rattle.std.specs.Prelude.{◌≡◌, ℕ, ◌<◌, Bool, true, false, List, Ok, Err, Result}
 use Rattle.field.specs.declared.hearing.Hearing.TheVariants.{Silence, Lone, Clash}
 use Rattle.slot.specs.declared.row.SlotRow.{SlotRow}
 use Rattle.slot.specs.declared.counts.Counts.{Counts}

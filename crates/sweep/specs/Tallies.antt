@@ -5,7 +5,7 @@ use Rattle.field.specs.declared.hearing.Hearing.{Hearing}
 use Rattle.field.specs.declared.hearing.Hearing.TheVariants.{Silence, Lone, Clash}
 use Rattle.field.specs.Airs.{hearing_number}
 use Rattle.slot.specs.declared.row.SlotRow.{SlotRow}
-use Rattle.slot.specs.Rules.{Setting, Phase, Play, beginning, ended, played, replayed}
+use Rattle.slot.specs.Rules.{Setting, Play, beginning, ended, played, replayed}
 
 -- How many slots were heard in some way.
 abbrev pub heard_as : Hearing → List SlotRow → ℕ

@@ -1,4 +1,4 @@
-use Rattle.std.proofs.Common.{◌≡◌, ℕ, ◌+◌, ◌<◌, Bool, true, false, List, Ok, Err, Result, sym, refl, ap, ◌∙◌, subst, arith}
+use Rattle.std.proofs.Common.{◌≡◌, ℕ, ◌+◌, ◌<◌, Bool, List, Ok, Err, Result, sym, refl, ap, ◌∙◌, subst, arith}
 use Rattle.std.proofs.lemmas.Bool.{true≢false}
 use Rattle.std.specs.Prelude.{IsErr, IsErrAnd}
 use Rattle.field.specs.declared.hearing.Hearing.{Hearing}
@@ -7,7 +7,6 @@ use Rattle.slot.specs.declared.ending.Stopped.{Stopped}
 use Rattle.slot.specs.declared.kinds.Left.{Left}
 use Rattle.slot.specs.declared.kinds.Left.TheVariants as left
 use Rattle.slot.specs.declared.kinds.Slot.{Slot}
-use Rattle.slot.specs.declared.kinds.Stand.{Stand}
 use Rattle.slot.specs.declared.counts.Counts.{Counts}
 use Rattle.slot.specs.declared.lists.Lists.{Lists}
 use Rattle.record.specs.declared.Tag.{Tag}
@@ -15,7 +14,7 @@ use Rattle.slot.specs.Slots.{phase_of, stand_of, heard_in}
 use Rattle.slot.specs.declared.kinds.Unsplit.{Unsplit}
 use Rattle.slot.specs.declared.kinds.Unsplit.TheVariants as unsplit
 use Rattle.slot.specs.Countings.{stop_number, counted}
-use Rattle.slot.specs.Going.{Where, over, where_left, where_split, setting, GoesOn, StandsAt, Shows, IsWithin, counts_in, counts_left}
+use Rattle.slot.specs.Going.{Where, over, where_left, where_split, setting, GoesOn, StandsAt, Shows, counts_in, counts_left}
 use Rattle.sweep.specs.Steps.{where_gone, HasSent}
 use Rattle.slot.proofs.Moves.{Led, led_on, setting_same}
 use Rattle.sweep.proofs.working.go_on.Goals as goal

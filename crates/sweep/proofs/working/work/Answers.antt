@@ -1,8 +1,7 @@
-use Rattle.std.proofs.Common.{◌≡◌, ◌<◌, ◌≤◌, ◌+◌, ◌-◌, ℕ, Bool, true, false, List, [], ◌∷◌, ◌++◌, length, Ok, Err, Result, sym, refl, ap, ◌∙◌, subst, arith}
+use Rattle.std.proofs.Common.{◌≡◌, ◌<◌, ◌≤◌, List, [], ◌∷◌, length, Ok, Err, Result, sym, refl, ap, ◌∙◌, subst, arith}
 use Rattle.std.proofs.lemmas.Bool.{true≢false}
 use Rattle.std.specs.Prelude.{IsErr, IsErrAnd}
 use Rattle.protocol.specs.declared.command.Command.TheVariants.{Select}
-use Rattle.record.specs.declared.Tag.{Tag}
 use Rattle.rows.specs.Filling.{rows_of}
 use Rattle.field.specs.declared.hearing.Hearing.{Hearing}
 use Rattle.field.specs.declared.hearing.Hearing.TheVariants.{Silence, Lone, Clash}
@@ -11,16 +10,14 @@ use Rattle.slot.specs.declared.counts.Counts.{Counts}
 use Rattle.slot.specs.declared.ending.Stopped.{Stopped}
 use Rattle.slot.specs.declared.kinds.Left.{Left}
 use Rattle.slot.specs.declared.kinds.Left.TheVariants as left
-use Rattle.slot.specs.declared.kinds.Slot.{Slot}
 use Rattle.slot.specs.declared.kinds.Unsplit.{Unsplit}
 use Rattle.slot.specs.declared.kinds.Unsplit.TheVariants as unsplit
 use Rattle.slot.specs.Countings.{stop_number, counted}
-use Rattle.slot.specs.Going.{Where, at_slot, over, where_opened, counts_in, setting, GoesOn, StandsAt, Shows, IsWithin, no_counts, row_of}
-use Rattle.slot.specs.Rules.{Play}
+use Rattle.slot.specs.Going.{Where, over, counts_in, setting, GoesOn, StandsAt, Shows, IsWithin, no_counts, row_of}
 use Rattle.slot.specs.Slots.{phase_of, stand_of, heard_in}
 use Rattle.slot.proofs.Moves.{Led}
 use Rattle.sweep.specs.Steps.{where_gone, where_worked, Tallied, HasSent}
-use Rattle.sweep.proofs.Walks.{Come, come_on, behind_on, few}
+use Rattle.sweep.proofs.Walks.{come_on, behind_on, few}
 use Rattle.sweep.proofs.working.work.Goals as goal
 
 -- What stops a sweep is handed on as it is.

@@ -1,0 +1,122 @@
+-- From where a sweep has come to what it reports, and the laws of that. Assumes nothing.
+use Rattle.std.proofs.Common.{◌≡◌, ℕ, zero, suc, ◌+◌, inl, inr, Bool, cond, List, [], ◌∷◌, length, sym, refl, ap, ◌∙◌, subst, arith}
+use Rattle.std.proofs.lemmas.List.Sums.{sum_by-cons}
+use Rattle.std.specs.Prelude.{◌==◌}
+use Rattle.record.specs.declared.Tag.{Tag}
+use Rattle.field.specs.Airs.{hearing_number}
+use Rattle.rows.specs.Filling.{rows_of}
+use Rattle.field.specs.declared.hearing.Hearing.{Hearing}
+use Rattle.field.specs.declared.hearing.Hearing.TheVariants.{Silence, Lone, Clash}
+use Rattle.slot.specs.declared.row.SlotRow.{SlotRow}
+use Rattle.slot.specs.declared.ending.Report.{Report}
+use Rattle.slot.specs.declared.lists.Lists.{Lists}
+use Rattle.slot.specs.Countings.{end_number}
+use Rattle.slot.specs.Going.{setting, over, EndsAt}
+use Rattle.slot.specs.Rules.{Setting, Play, ended, beginning, played, replayed, went, plain}
+use Rattle.sweep.specs.Fates.{due_serials, Sized, Distinct, EachOnce}
+use Rattle.sweep.specs.Steps.{Tallied}
+use Rattle.sweep.specs.Tallies.{heard_as, enough}
+use Rattle.sweep.specs.Whole.{Outcome, Reported, Swept, Complete, Lawful}
+use Rattle.sweep.proofs.Balances.{completes}
+use Rattle.sweep.proofs.Ends.{settles}
+use Rattle.sweep.proofs.Plays.{fates}
+use Rattle.sweep.proofs.Readings.{reads_once}
+use Rattle.sweep.proofs.Rooms.{keeps}
+use Rattle.sweep.proofs.Walks.{Come}
+
+-- A slot counts in one of three ways.
+abbrev one_of : Hearing → SlotRow → ℕ
+one_of h row = cond (hearing_number row.hearing == hearing_number h) 1 0
+
+ways : (h : Hearing) → cond (hearing_number h == 1) 1 0 + cond (hearing_number h == 0) 1 0 + cond (hearing_number h == 2) 1 0 ≡ 1
+ways Silence = refl
+ways Lone = refl
+ways Clash = refl
+
+counted_first : (h : Hearing) (row : SlotRow) (rows : List SlotRow) → heard_as h (row ∷ rows) ≡ one_of h row + heard_as h rows
+counted_first h row rows = sum_by-cons (one_of h) row rows
+
+pub all_heard : (rows : List SlotRow) → heard_as Lone rows + heard_as Silence rows + heard_as Clash rows ≡ length rows
+all_heard [] = refl
+all_heard (row ∷ rows) =
+    omega (arith, counted_first Lone row rows, counted_first Silence row rows, counted_first Clash row rows, ways row.hearing, all_heard rows)
+
+-- A replay is a play with hearings that are settled.
+replay_played : (set : Setting) (n : ℕ) (p : Play) → (hs : List Hearing) × (replayed set n p ≡ played set hs p)
+unfolding replayed played
+replay_played set zero p = ([], refl)
+replay_played set (suc n) p = let rest = replay_played set n (went set (plain set p) p) in (plain set p ∷ rest.0, rest.1)
+
+module _ (faithful : Bool) (coins : List ℕ) (budget : ℕ) (first : Lists) (before : List Tag) (report : Report) (l : Lists) (after : List Tag)
+    (come : Come faithful coins budget first before (over (end_number report.end) report.counts) l after) (tally : Tallied report.counts (rows_of l.slots)) where
+  abbrev set : Setting
+  set = setting coins budget first
+
+  abbrev outcome : Outcome
+  outcome = record { report = report; slots = rows_of l.slots; serials = rows_of l.serials; tags = after }
+
+  reported : (q : Play) → EndsAt (end_number report.end) report.counts l after q → Reported outcome q
+  reported q e =
+      record {
+        at_end = e.phase;
+        commands = sym e.commands;
+        lone = tally.lone ∙ ap (heard_as Lone) (sym e.slots);
+        silent = tally.silent ∙ ap (heard_as Silence) (sym e.slots);
+        clash = tally.clash ∙ ap (heard_as Clash) (sym e.slots);
+        slots = sym e.slots;
+        serials = sym e.serials;
+        tags = sym e.tags;
+      }
+
+  pub swept_by : Swept faithful set before outcome
+  swept_by =
+      let q = come (beginning before) refl in
+      let r = subst (Reported outcome) q.1.there (reported q.0 q.2) in
+      record {
+        hearings = q.1.hearings;
+        heard = q.1.heard;
+        by_rule = r;
+        plain = λ f.
+            let e = q.1.plain f in
+            subst (Reported outcome)
+            (e ∙ settles set (length q.1.hearings) (end_number report.end) before (ap (λ (p : Play). p.phase) (sym e) ∙ q.2.phase))
+            (reported q.0 q.2);
+        commands = λ e.
+            let c = completes set q.1.hearings before (r.at_end ∙ ap ended e) in
+            r.commands ∙ c.commands ∙ ap (λ (n : ℕ). n + (played set q.1.hearings (beginning before)).reads + 1) (ap length (sym r.slots));
+      }
+
+-- What holds of every sweep.
+module _ (faithful : Bool) (set : Setting) (before : List Tag) (o : Outcome) (sized : Sized before) (s : Swept faithful set before o) where
+  whole : end_number o.report.end ≡ 0 → Complete faithful before o
+  whole e =
+      let p : Play = played set s.hearings (beginning before) in
+      let c = completes set s.hearings before (s.by_rule.at_end ∙ ap ended e) in
+      let fated = λ (d : Distinct before). fates set s.hearings before sized d s.heard (s.by_rule.at_end ∙ ap ended e) in
+      record {
+        slots = omega (arith, c.slots, s.by_rule.lone, s.by_rule.silent, s.by_rule.clash);
+        commands = λ f.
+            let r = s.plain f in
+            let q : Play = replayed set (enough set) (beginning before) in
+            let same = replay_played set (enough set) (beginning before) in
+            let ended_so : q.phase ≡ ended 0 = r.at_end ∙ ap ended e in
+            let d = completes set same.0 before (ap (λ (x : Play). x.phase) (sym same.1) ∙ ended_so) in
+            let all : q.commands ≡ length q.slots + q.reads + 1 = subst (λ (x : Play). x.commands ≡ length x.slots + x.reads + 1) (sym same.1) d.commands in
+            omega (arith, all, r.commands, ap length r.slots, r.lone, reads_once set (enough set) before ended_so);
+        tags = λ d. s.by_rule.tags ∙ (fated d).tags;
+        serials = λ d. subst (λ (x : List (List ℕ)). EachOnce x (due_serials before)) (sym s.by_rule.serials) (fated d).serials;
+      }
+
+  pub lawful : Lawful faithful set before o
+  lawful =
+      let k = keeps set s.hearings before in
+      record {
+        budget = omega (arith, k.budget, s.by_rule.commands);
+        slots = omega (arith, s.by_rule.lone, s.by_rule.silent, s.by_rule.clash, all_heard (played set s.hearings (beginning before)).slots, ap length s.by_rule.slots);
+        spent = λ e. s.by_rule.commands ∙ k.spent (s.by_rule.at_end ∙ ap ended e);
+        full = λ e. elim (k.full (s.by_rule.at_end ∙ ap ended e)) [
+          | inl slots ↦ inl (ap length s.by_rule.slots ∙ slots)
+          | inr serials ↦ inr (ap length s.by_rule.serials ∙ serials)
+        ];
+        whole = whole;
+      }
