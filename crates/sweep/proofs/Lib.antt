@@ -1,6 +1,7 @@
 pub mod Balances
 pub mod Crowds
 pub mod Deeds
+pub mod Empties
 pub mod Ends
 pub mod Frames
 pub mod Outcomes

@@ -1,3 +1,4 @@
+pub mod Cases
 pub mod Fates
 pub mod Steps
 pub mod Tallies

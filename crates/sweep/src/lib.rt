@@ -4,6 +4,7 @@
 ghost use Rattle.std.specs.Prelude.{◌≡◌, IfOk, OnErr, if◌then◌else◌, Some, None};
 ghost use Rattle.rows.specs.Filling.{rows_of};
 ghost use Rattle.slot.specs.Going.{setting, BothBehind, is_recorded};
+ghost use Rattle.sweep.specs.Cases.{EmptySweeps};
 ghost use Rattle.sweep.specs.Whole.{Outcome, Swept, Lawful, refused_by};
 
 mod measuring;
@@ -18,6 +19,7 @@ use slot::lists::Lists;
 use slot::working::MOST_ROWS;
 use working::work;
 
+#[tactic(auto, using(crate::proofs::Empties::empty_sweeps))]
 // Sweeps a field: splits each clash and reads each lone tag, until the sweep is whole or stopped.
 pub fn sweep<F: Field>(
     field: &mut F,
@@ -30,6 +32,7 @@ pub fn sweep<F: Field>(
     ensures rule { IfOk result (λ r. Swept F.faithful (setting coins.now budget lists.old) (F.tags field.old) (record { report = r; slots = rows_of lists.new.slots; serials = rows_of lists.new.serials; tags = F.tags field.new })) }
     ensures laws { IfOk result (λ r. Lawful F.faithful (setting coins.now budget lists.old) (F.tags field.old) (record { report = r; slots = rows_of lists.new.slots; serials = rows_of lists.new.serials; tags = F.tags field.new })) }
     ensures behind { BothBehind lists.old lists.new }
+    ensures empty { EmptySweeps }
 {
     if coins.is_empty() || coins.len() > MOST_ROWS {
         return Err(Refusal::Coins);

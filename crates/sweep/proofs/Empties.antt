@@ -1,0 +1,97 @@
+-- A sweep of no tags, deed by deed. Assumes nothing.
+use Rattle.std.proofs.Common.{◌≡◌, ℕ, List, [], ◌∷◌, sym, refl, ap, ◌∙◌, subst, arith}
+use Rattle.protocol.specs.declared.command.Command.TheVariants.{Select}
+use Rattle.field.specs.declared.hearing.Hearing.{Hearing}
+use Rattle.field.specs.declared.hearing.Hearing.TheVariants.{Silence, Lone, Clash}
+use Rattle.field.specs.Sends.{stepped_all, on_air}
+use Rattle.slot.specs.declared.counts.Counts.{Counts}
+use Rattle.slot.specs.declared.ending.End.{End}
+use Rattle.slot.specs.declared.ending.End.TheVariants.{Whole, Stopped}
+use Rattle.slot.specs.declared.ending.Stop.{Stop}
+use Rattle.slot.specs.declared.ending.Stop.TheVariants.{Deep, Spent, Full}
+use Rattle.slot.specs.Countings.{end_number}
+use Rattle.slot.specs.Rules.{Setting, Phase, fresh, in_silence, in_lone, in_clash, in_reading, ended, Play, beginning, went, may_hear, played, Heard}
+use Rattle.sweep.specs.Cases.{EmptySweeps}
+use Rattle.sweep.specs.Whole.{Outcome, Reported, Swept}
+
+abbrev small : Setting
+small = record { coins = 2 ∷ []; budget = 2; slot_room = 1; serial_room = 0 }
+
+abbrev last : Play
+last =
+    record {
+      phase = ended 0;
+      waiting = 0;
+      next = 0;
+      commands = 2;
+      reads = 0;
+      slots = record { command = Select; hearing = Silence; waiting = 0 } ∷ [];
+      serials = [];
+      tags = [];
+    }
+
+-- How far a phase is along.
+abbrev is_over : Phase → ℕ
+is_over fresh = 0
+is_over in_silence = 0
+is_over (in_lone s) = 0
+is_over in_clash = 0
+is_over (in_reading s) = 0
+is_over (ended n) = 1
+
+abbrev number_of_end : Phase → ℕ
+number_of_end fresh = 0
+number_of_end in_silence = 0
+number_of_end (in_lone s) = 0
+number_of_end in_clash = 0
+number_of_end (in_reading s) = 0
+number_of_end (ended n) = n
+
+unfinished : {P : Type 0} (p q : Phase) (k : ℕ) → p ≡ q → is_over q ≡ 0 → p ≡ ended k → P
+unfinished p q k e o f = absurd (let z : ◌≡◌ {A = ℕ} 0 1 = sym o ∙ ap is_over (sym e) ∙ ap is_over f in omega arith)
+
+stays : (hs : List Hearing) → played small hs last ≡ last
+unfolding played went
+stays [] = refl
+stays (h ∷ hs) = stays hs
+
+closed : (h : Hearing) → went small h (went small Silence (beginning [])) ≡ last
+unfolding went on_air stepped_all
+closed h = refl
+
+opened : (went small Silence (beginning [])).phase ≡ in_silence
+unfolding went on_air
+opened = refl
+
+only_silence : (h : Hearing) → may_hear small (beginning []) h → h ≡ Silence
+unfolding may_hear on_air
+only_silence h e = e
+
+second : (hs : List Hearing) (k : ℕ) → (played small hs (went small Silence (beginning []))).phase ≡ ended k → played small hs (went small Silence (beginning [])) ≡ last
+unfolding played
+second [] k e = unfinished _ in_silence k opened refl e
+second (h ∷ hs) k e = ap (played small hs) (closed h) ∙ stays hs
+
+first : (hs : List Hearing) (k : ℕ) → Heard small hs (beginning []) → (played small hs (beginning [])).phase ≡ ended k → played small hs (beginning []) ≡ last
+unfolding played Heard
+first [] k h e = unfinished _ fresh k refl refl e
+first (x ∷ hs) k h e =
+    let heard : x ≡ Silence = only_silence x h.0 in
+    ap (λ (y : Hearing). played small hs (went small y (beginning []))) heard
+    ∙ second hs k (ap (λ (y : Hearing). (played small hs (went small y (beginning []))).phase) (sym heard) ∙ e)
+
+whole_end : (e : End) → end_number e ≡ 0 → e ≡ Whole
+whole_end Whole z = refl
+whole_end (Stopped Deep) z = absurd (omega (arith, z))
+whole_end (Stopped Spent) z = absurd (omega (arith, z))
+whole_end (Stopped Full) z = absurd (omega (arith, z))
+
+pub empty_sweeps : EmptySweeps
+unfolding EmptySweeps
+empty_sweeps = (
+  (λ faithful o s.
+      let r = subst (Reported o) (first s.hearings (end_number o.report.end) s.heard s.by_rule.at_end) s.by_rule in
+      let whole : o.report.end ≡ Whole = whole_end o.report.end (ap number_of_end (sym r.at_end)) in
+      (λ i. record { end = whole i; counts = record { lone = r.lone i; silent = r.silent i; clash = r.clash i; commands = r.commands i } }, r.slots)),
+  tt,
+)
