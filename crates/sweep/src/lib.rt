@@ -19,8 +19,8 @@ use slot::lists::Lists;
 use slot::working::MOST_ROWS;
 use working::work;
 
-#[tactic(auto, using(crate::proofs::Empties::empty_sweeps))]
 // Sweeps a field: splits each clash and reads each lone tag, until the sweep is whole or stopped.
+#[tactic(auto, using(crate::proofs::Empties::empty_sweeps))]
 pub fn sweep<F: Field>(
     field: &mut F,
     coins: &[u64],
