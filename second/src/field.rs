@@ -18,11 +18,12 @@ pub enum Refusal {
     NoPeriod = 11,
 }
 
+/// The numbers are part of the answers about sweeps.
 #[derive(Clone, Copy, Debug, PartialEq, Eq, Hash)]
 pub enum Hearing {
-    Silence,
-    Lone,
-    Clash,
+    Silence = 0,
+    Lone = 1,
+    Clash = 2,
 }
 
 /// A hearing whose reply is still to be written out by its tag.
