@@ -101,7 +101,7 @@ impl Play {
         &room[..last.map_or(0, |last| last + 1)]
     }
 
-    fn digest(&self) -> Fingerprint {
+    pub fn digest(&self) -> Fingerprint {
         let mut digest = Fingerprint::new();
         for place in 0..self.field.places() {
             take_in(&mut digest, self.field.tag(place));

@@ -19,6 +19,7 @@ mod random;
 mod sheet;
 mod speed;
 mod sweep;
+mod sweep_question;
 mod tag;
 mod tag_asker;
 mod tag_cases;
