@@ -209,12 +209,18 @@ impl Asker {
     }
 
     fn tag(&mut self, like: Like) {
+        let (tag, told) = self.any_tag(like);
+        self.ask(Question::Tag { tag, told });
+    }
+
+    /// A tag for the table, and how many bytes of its memory are to be told.
+    pub fn any_tag(&mut self, like: Like) -> (Tag, usize) {
         let (mut tag, told) = self.unused(like);
         match like {
             Like::Used | Like::Twins => self.use_up(&mut tag),
             Like::New | Like::Empty => {}
         }
-        self.ask(Question::Tag { tag, told });
+        (tag, told)
     }
 
     /// A new tag, and how many bytes of its memory are to be told.

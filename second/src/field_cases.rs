@@ -84,7 +84,7 @@ const LIKENESSES: [Like; 5] = [Like::New, Like::New, Like::Used, Like::Used, Lik
 const PERIODS: [u16; 8] = [1, 2, 2, 3, 3, 5, 5, 65535];
 
 /// How many layers there may be above a leaf.
-const MOST_LAYERS: usize = 3;
+pub const MOST_LAYERS: usize = 3;
 
 /// How many fields of random shape, by their size.
 const LARGE: usize = 20;
@@ -230,7 +230,7 @@ impl Asker {
     }
 
     fn random_field(&mut self, places: usize) {
-        let nesting = self.any_shape(places, MOST_LAYERS);
+        let nesting = self.any_shape(places, MOST_LAYERS, &PERIODS);
         let like = self.random().pick(&LIKENESSES);
         let acts = self.random().between(2, 4);
         self.play(like, &nesting, |asker| {
@@ -240,28 +240,30 @@ impl Asker {
         });
     }
 
-    fn any_shape(&mut self, places: usize, layers: usize) -> Nesting {
+    /// With so many layers at most, and spoilers of these periods.
+    pub fn any_shape(&mut self, places: usize, layers: usize, periods: &[u16]) -> Nesting {
         match self.random().between(0, 6) {
             _ if layers == 0 => self.leaf(places),
             0 => self.leaf(places),
             1 | 2 => {
-                let period = self.period();
-                Nesting::spoiler(period, self.any_shape(places, layers - 1))
+                let period = self.period(periods);
+                Nesting::spoiler(period, self.any_shape(places, layers - 1, periods))
             }
             _ => {
                 let left = self.split(places);
-                let left_side = self.any_shape(left, layers - 1);
-                Nesting::pair(left_side, self.any_shape(places - left, layers - 1))
+                let left_side = self.any_shape(left, layers - 1, periods);
+                let right_side = self.any_shape(places - left, layers - 1, periods);
+                Nesting::pair(left_side, right_side)
             }
         }
     }
 
     /// Seldom one that no spoiler can have.
-    fn period(&mut self) -> u16 {
+    fn period(&mut self, periods: &[u16]) -> u16 {
         if self.random().one_in(40) {
             return 0;
         }
-        self.random().pick(&PERIODS)
+        self.random().pick(periods)
     }
 
     fn leaf(&mut self, places: usize) -> Nesting {

@@ -19,6 +19,8 @@ mod random;
 mod sheet;
 mod speed;
 mod sweep;
+mod sweep_asker;
+mod sweep_cases;
 mod sweep_question;
 mod tag;
 mod tag_asker;
@@ -36,6 +38,7 @@ use speed::Load;
 const USAGE: &str = "usage: second frames SEED INPUT_FILE OUTPUT_FILE
        second tags SEED INPUT_FILE OUTPUT_FILE
        second fields SEED INPUT_FILE OUTPUT_FILE
+       second sweeps SEED INPUT_FILE OUTPUT_FILE
        second speed query SENDS
        second speed read SENDS";
 
@@ -45,6 +48,7 @@ enum Subject {
     Frames,
     Tags,
     Fields,
+    Sweeps,
 }
 
 /// Questions and answers that are wanted.
@@ -102,6 +106,7 @@ fn understand(words: &[OsString]) -> Option<Job> {
         "frames" => Subject::Frames,
         "tags" => Subject::Tags,
         "fields" => Subject::Fields,
+        "sweeps" => Subject::Sweeps,
         _ => return None,
     };
     let seed = seed.to_str()?.parse().ok()?;
@@ -136,6 +141,10 @@ fn lines(job: &Job) -> Vec<(String, String)> {
             .map(|asked| (asked.question.to_string(), asked.answer))
             .collect(),
         Subject::Fields => field_cases::all(job.seed)
+            .into_iter()
+            .map(|asked| (asked.question.to_string(), asked.answer))
+            .collect(),
+        Subject::Sweeps => sweep_cases::all(job.seed)
             .into_iter()
             .map(|asked| (asked.question.to_string(), asked.answer))
             .collect(),
@@ -219,5 +228,14 @@ mod tests {
         assert!(understood("fields 1 q a"));
         assert!(!understood("fields 1 q"));
         assert!(!understood("field 1 q a"));
+    }
+
+    #[test]
+    fn sweeps_are_a_subject_too() {
+        assert!(understood("sweeps 1 q a"));
+        assert!(!understood("sweeps 1 q"));
+        assert!(!understood("sweep 1 q a"));
+        assert!(first_question("sweeps 1 q a").starts_with("tag "));
+        assert!(USAGE.contains("second sweeps SEED"));
     }
 }
