@@ -12,3 +12,10 @@ pub struct SlotRow {
     pub hearing: Hearing,
     pub waiting: u8,
 }
+
+// A row for storage that holds none yet.
+pub const BLANK: SlotRow = SlotRow {
+    command: Command::Select,
+    hearing: Hearing::Silence,
+    waiting: 0,
+};
