@@ -1,0 +1,4 @@
+pub mod Agreements
+pub mod Sizes
+pub mod Sweeps
+pub mod Tellings

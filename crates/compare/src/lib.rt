@@ -1,0 +1,7 @@
+// Two fields of any two kinds that meet the same calls.
+#![tactic(auto)]
+
+pub mod agreeing;
+pub mod call;
+mod measuring;
+pub mod playing;
