@@ -1,4 +1,5 @@
 pub mod Agreements
+pub mod Places
 pub mod Sizes
 pub mod Sweeps
 pub mod Tellings

@@ -1,8 +1,9 @@
 -- Histories, joined and begun. Assumes nothing.
-use Rattle.std.proofs.Common.{◌≡◌, ℕ, ◌≤◌, min, Bool, true, false, cond, List, [], ◌∷◌, ◌++◌, length, take, drop, Some, None, Ok, Err, Option, Result, sym, refl, ap, ◌∙◌, ap₂, subst, arith}
+use Rattle.std.proofs.Common.{◌≡◌, ℕ, ◌+◌, ◌<◌, ◌≤◌, min, get_or, Bool, true, false, cond, List, [], ◌∷◌, ◌++◌, length, take, drop, Some, None, Ok, Err, Option, Result, sym, refl, ap, ◌∙◌, ap₂, subst, arith}
 use Rattle.std.specs.Prelude.{if◌then◌else◌, IfOk, OnErr, nat_lt}
 use Rattle.std.specs.Option.{option_or}
-use Rattle.std.proofs.lemmas.List.{take-append-drop, length-take-le}
+use Rattle.std.proofs.lemmas.Bool.Decides.{nat_tests}
+use Rattle.std.proofs.lemmas.List.{take-append-drop, length-take-le, take_more, map-append}
 use Rattle.protocol.specs.Refusals.{number_of}
 use Rattle.frame.specs.Openings.{opening}
 use Rattle.field.specs.declared.hearing.Hearing.{Hearing}
@@ -17,7 +18,11 @@ use Rattle.rows.specs.declared.list.Rows.{Rows}
 use Rattle.rows.specs.Filling.{rows_of, room_of, Behind}
 use Rattle.slot.specs.declared.lists.Lists.{Lists}
 use Rattle.sweep.specs.Whole.{Outcome, Swept, refused_by}
-use Rattle.compare.specs.Meetings.{Step, send, gap, sweep, Account, unsent, heard, passed, unswept, reported, Met}
+use Rattle.compare.specs.declared.call.Plan.{Plan}
+use Rattle.compare.specs.declared.call.Side.{Side}
+use Rattle.compare.specs.declared.call.Call.{Call}
+use Rattle.compare.specs.declared.call.Call.TheVariants as call
+use Rattle.compare.specs.Meetings.{Step, send, gap, sweep, plan_on, step_on, steps_on, Account, unsent, heard, passed, unswept, reported, Met}
 use Rattle.compare.specs.Histories.{Moment, History, tags_after, answer_in, last_answer, replaced, rows_after, laid, storage_after, Listed, Told}
 
 History-append : (faithful : Bool) (ss ts : List Step) (before : List Tag) (ms ns : List Moment) → History faithful ss before ms
@@ -218,4 +223,29 @@ met_send faithful frame row room length_lent before after (Err e) same refusal t
     let why = is_unheard (is_short length_lent) (number_of e) refusal in
     (unsent e, (sym same ∙ why.0, why.1, tags ∙ ap (λ (b : Bool). cond b before (stepped_all (opening frame) row before)) same))
 
--- A field meets the same on lists with the same room.
+-- A buffer of some room, of which no more than the longest reply takes is lent, is too short exactly where all of it would
+-- be.
+pub short_same : (lent room : ℕ) → lent ≡ min room 258 → is_short lent ≡ is_short room
+short_same lent room e = grind (arith, nat_tests)
+
+same_step : (side : Side) (lists others : Lists) (c : Call) → room_of others.slots ≡ room_of lists.slots → room_of others.serials ≡ room_of lists.serials
+    → step_on side others c ≡ step_on side lists c
+same_step side lists others (call.Send frame row room) e f = refl
+same_step side lists others (call.Gap microseconds) e f = refl
+same_step side lists others (call.Sweep left right) e f =
+    let plan : Plan = plan_on side left right in
+    ap₂ (λ (m n : ℕ). sweep (record { coins = plan.coins.now; budget = plan.budget; slot_room = m; serial_room = n })) e f
+
+-- What is told of the calls so far, and then of one more.
+pub told_more : (faithful : Bool) (side : Side) (calls : List Call) (i : ℕ) (d : Call) (tags between tags_at_end : List Tag) (before mid after : Lists)
+    (a b : Option (Result Report Refusal)) → i < length calls → Told faithful (steps_on side before (take i calls)) tags between before mid a
+    → Told faithful (step_on side mid (get_or calls i d) ∷ []) between tags_at_end mid after b
+    → Told faithful (steps_on side before (take (i + 1) calls)) tags tags_at_end before after (option_or b a)
+told_more faithful side calls i d tags between tags_at_end before mid after a b h told one =
+    let same = same_step side before mid (get_or calls i d) told.slots.room told.serials.room in
+    let steps : steps_on side before (take i calls) ++ step_on side mid (get_or calls i d) ∷ [] ≡ steps_on side before (take (i + 1) calls) =
+    ap (λ (s : Step). steps_on side before (take i calls) ++ s ∷ []) same
+    ∙ sym (map-append (step_on side before) (take i calls) (get_or calls i d ∷ []))
+    ∙ ap (steps_on side before) (sym (take_more calls i d h)) in
+    subst (λ (ss : List Step). Told faithful ss tags tags_at_end before after (option_or b a)) steps
+    (Told-append faithful _ _ tags between tags_at_end before mid after a b told one)
