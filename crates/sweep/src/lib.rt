@@ -7,7 +7,7 @@ ghost use Rattle.slot.specs.Going.{setting, BothBehind, is_recorded};
 ghost use Rattle.sweep.specs.Cases.{EmptySweeps};
 ghost use Rattle.sweep.specs.Whole.{Outcome, Swept, Lawful, refused_by};
 
-mod measuring;
+pub mod measuring;
 mod working;
 
 use field::field::Field;
