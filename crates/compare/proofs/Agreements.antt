@@ -1,18 +1,18 @@
 -- Two fields that begin alike agree as long as the play is fair. Assumes nothing.
-use Rattle.std.proofs.Common.{◌≡◌, ℕ, Bool, List, [], ◌∷◌, map, sym, ap, ◌∙◌, subst}
+use Rattle.std.proofs.Common.{◌≡◌, ℕ, Bool, List, [], ◌∷◌, sym, ◌∙◌, subst}
 use Rattle.record.specs.declared.Tag.{Tag}
 use Rattle.field.specs.Sends.{sent_to, gapped_all}
 use Rattle.slot.specs.declared.lists.Lists.{Lists}
 use Rattle.slot.specs.Going.{setting}
 use Rattle.slot.specs.Rules.{Setting}
-use Rattle.sweep.specs.Fates.{swept, due_serials, EachOnce, Sized}
+use Rattle.sweep.specs.Fates.{Sized}
 use Rattle.sweep.specs.Whole.{Outcome}
 use Rattle.compare.specs.declared.call.Side.TheVariants.{Left, Right}
 use Rattle.compare.specs.declared.call.Call.{Call}
 use Rattle.compare.specs.declared.call.Call.TheVariants as call
 use Rattle.compare.specs.Meetings.{send, gap, sweep, step_on, steps_on, Account, unsent, heard, passed, unswept, reported, Met}
 use Rattle.compare.specs.Histories.{Moment, History}
-use Rattle.compare.specs.Laws.{IsFair, SameSweeps, SameAccounts, Agreed, Fair, AllAgreed, Law}
+use Rattle.compare.specs.Laws.{IsFair, SameAccounts, Agreed, Fair, AllAgreed, Law}
 use Rattle.compare.proofs.Sizes.{sized_sent, sized_gapped, sized_swept}
 use Rattle.compare.proofs.Sweeps.{Settled, settled}
 

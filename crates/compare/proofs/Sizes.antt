@@ -1,6 +1,6 @@
 -- Serial numbers keep their length, whatever their tags meet. Assumes nothing.
-use Rattle.std.proofs.Common.{◌≡◌, ℕ, zero, suc, ◌+◌, ◌/◌, min, Bool, true, false, cond, not, List, [], ◌∷◌, map, length, get_or, Option, sym, refl, ap, ◌∙◌, ltb, eqb}
-use Rattle.std.specs.List.{All, AllByRecursion}
+use Rattle.std.proofs.Common.{◌≡◌, ℕ, zero, suc, ◌+◌, ◌/◌, min, Bool, true, false, cond, not, List, [], ◌∷◌, map, length, get_or, Option, sym, refl, ap, ◌∙◌, ltb}
+use Rattle.std.specs.List.{AllByRecursion}
 use Rattle.std.proofs.lemmas.List.{length-set, length-take}
 use Rattle.std.proofs.lemmas.List.Elements.{All-from_recursion, recursion_from_All}
 use Rattle.frame.specs.Openings.{Opening, opening}
@@ -12,7 +12,7 @@ use Rattle.record.specs.Gaps.{gapped, interrupted}
 use Rattle.record.specs.Masks.{selects, stored, matches}
 use Rattle.record.specs.Records.{serial_of, is_write_ok, in_state, flagging, marking, permitting, remembering, locking}
 use Rattle.tag.specs.Orders.{Order, select, unselect_ne, unselect_id_flag, unselect_noid_flag, query, scroll, again, reset, read, verify, write, lock, qlock, damaged, unknown, order}
-use Rattle.tag.specs.Steps.{met, if_singulated, if_inventoried, is_chosen, joined, moved, verified, is_writable, is_lockable, is_meant, written, locked, unselected, obeyed, stepped}
+use Rattle.tag.specs.Steps.{met, if_singulated, if_inventoried, is_chosen, joined, moved, verified, is_writable, is_lockable, is_meant, written, locked, obeyed, stepped}
 use Rattle.field.specs.Sends.{first_coin, stepped_all, gapped_all, is_short, sent_to}
 use Rattle.sweep.specs.Fates.{swept, Sized}
 use Rattle.sweep.proofs.Tags.{serial_of_swept}

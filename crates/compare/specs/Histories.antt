@@ -1,5 +1,5 @@
 -- What becomes of a field and its lists in a play. Assumes nothing.
-use Rattle.std.specs.Prelude.{◌≡◌, ℕ, Bool, List, [], ◌∷◌, ◌++◌, length, drop, Some, None, Ok, Err, Option, Result}
+use Rattle.std.specs.Prelude.{◌≡◌, Bool, List, [], ◌∷◌, ◌++◌, length, drop, Some, None, Ok, Err, Option, Result}
 use Rattle.std.specs.Option.{option_or}
 use Rattle.protocol.specs.declared.refusal.Refusal.{Refusal}
 use Rattle.record.specs.declared.Tag.{Tag}

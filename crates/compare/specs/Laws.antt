@@ -8,7 +8,7 @@ use Rattle.sweep.specs.Fates.{times, due_serials, Distinct, EachOnce}
 use Rattle.sweep.specs.Whole.{Outcome}
 use Rattle.compare.specs.declared.call.Side.TheVariants.{Left, Right}
 use Rattle.compare.specs.declared.call.Call.{Call}
-use Rattle.compare.specs.Meetings.{Account, unsent, heard, passed, unswept, reported, steps_on}
+use Rattle.compare.specs.Meetings.{Account, unswept, reported, steps_on}
 use Rattle.compare.specs.Histories.{Moment, History}
 
 -- A sweep that ends whole, of tags with no serial number twice.

@@ -1,5 +1,6 @@
 // Whether two fields have the same tags.
 ghost use Rattle.std.specs.Prelude.{◌≡◌, Decides};
+ghost use Rattle.compare.specs.Places.{alike_at};
 
 use field::field::Field;
 
@@ -7,13 +8,11 @@ use field::field::Field;
 pub fn agree<L: Field, R: Field>(left: &L, right: &R) -> bool
     ensures { Decides result (L.tags left.now ≡ R.tags right.now) }
 {
-    if left.places() != right.places() {
-        return false;
-    }
-    for place in 0..left.places() {
-        if left.tag(place) != right.tag(place) {
-            return false;
-        }
-    }
-    true
+    left.places() == right.places() && (0..left.places()).all(|place| agree_at(left, right, place))
+}
+
+fn agree_at<L: Field, R: Field>(left: &L, right: &R, place: usize) -> bool
+    ensures { result ≡ alike_at (L.tags left.now) (R.tags right.now) place }
+{
+    left.tag(place) == right.tag(place)
 }

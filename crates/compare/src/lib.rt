@@ -3,5 +3,4 @@
 
 pub mod agreeing;
 pub mod call;
-mod measuring;
 pub mod playing;

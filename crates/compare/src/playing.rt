@@ -8,18 +8,18 @@ ghost use Rattle.compare.specs.Histories.{Told};
 ghost use Rattle.compare.specs.Laws.{Law};
 
 use crate::call::{Call, Side};
-use crate::measuring::measure;
 use field::field::{Field, ROOM};
 use protocol::refusal::Refusal;
 use slot::ending::Report;
 use slot::lists::Lists;
+use sweep::measuring::measure;
 use sweep::sweep;
 
 // What the last sweep of a field answered, if there was any.
 pub type Answer = Option<Result<Report, Refusal>>;
 
 // The answers of both fields.
-#[derive(Clone, Copy)]
+#[derive(Clone, Copy, PartialEq, Eq, Debug)]
 pub struct Played {
     pub left: Answer,
     pub right: Answer,
@@ -52,12 +52,7 @@ fn laws<F: Field>(field: &F)
 }
 
 // Plays the calls on the field of one side.
-fn play_on<F: Field>(
-    side: Side,
-    field: &mut F,
-    calls: &[Call<'_>],
-    lists: &mut Lists<'_>,
-) -> Answer
+fn play_on<F: Field>(side: Side, field: &mut F, calls: &[Call<'_>], lists: &mut Lists<'_>) -> Answer
     ensures { Told F.faithful (steps_on side lists.old calls.now) (F.tags field.old) (F.tags field.new) lists.old lists.new result }
 {
     let mut last = None;

@@ -1,22 +1,21 @@
-use Rattle.std.proofs.Common.{◌≡◌, ℕ, ◌<◌, length, List, sym, refl, ap, ◌∙◌, below_more, arith}
-use Rattle.std.specs.List.{slice_get}
-use Rattle.std.proofs.lemmas.Bool.{true≢false}
+use Rattle.std.proofs.Common.{◌≡◌, ℕ, Bool, List, length, sym, refl, ap, ◌∙◌, subst, arith, rules}
+use Rattle.std.specs.Bool.{Decides}
+use Rattle.std.specs.List.{list_all, range_with_len}
+use Rattle.std.proofs.lemmas.Iterator.{YieldsList-from_range}
+use Rattle.std.proofs.lemmas.Iterator.Search.{all_from_yields_List}
 use Rattle.record.specs.declared.Tag.{Tag}
-use Rattle.compare.proofs.Places.{place_told, same_lists}
+use Rattle.compare.specs.Places.{alike_at}
+use Rattle.compare.proofs.Places.{all_alike}
 use Rattle.compare.proofs.agreeing.agree.Goals as goal
 
-pub returns-then-ne : goal.returns-then-ne
-returns-then-ne g c =
-    let told = place_told c.tag.result c.tag-in-loop-place.result _ _ c.ne.result c.tag.ensures c.tag-in-loop-place.ensures c.ne.ensures in
-    (λ e. absurd (true≢false (sym e)), λ e. sym (told.1 (ap (λ (l : List Tag). slice_get l c.loop-place.place) e)) ∙ c.if-ne.true)
-
-pub loop-place-preserved : goal.loop-place-preserved
-loop-place-preserved g c =
-    let told = place_told c.tag.result c.tag-in-loop-place.result _ _ c.ne.result c.tag.ensures c.tag-in-loop-place.ensures c.ne.ensures in
-    below_more _ _ c.loop-place.invariant (told.0 c.if-ne.false)
-
-pub returns : goal.returns
-returns g c =
-    let sizes : length (g.L.Field.tags c.args.left.now) ≡ length (g.R.Field.tags c.args.right.now) =
-    omega (arith, c.places.ensures, c.places-2.ensures, c.if-places.false) in
-    (λ e. same_lists _ _ sizes (λ k lt. c.loop-place.invariant k (omega (arith, c.places-place-end.ensures, c.loop-place-test.false))), λ e. refl)
+pub returns-then-places : goal.returns-then-places
+returns-then-places g c =
+    let left : List Tag = g.L.Field.tags c.args.left.now in
+    let right : List Tag = g.R.Field.tags c.args.right.now in
+    let size : length left ≡ length right = omega (arith, c.places.ensures, c.places-2.ensures, c.if-places.true) in
+    let tested : c.all.result ≡ list_all (alike_at left right) (range_with_len 0 c.places-then-places.result) =
+    all_from_yields_List (alike_at left right) _ _ c.all.result c.all.ensures.ran
+    (YieldsList-from_range 0 c.places-then-places.result c.places-then-places.result refl (omega arith)) (λ x b q k. search rules) in
+    let every : c.all.result ≡ list_all (alike_at left right) (range_with_len 0 (length left)) =
+    tested ∙ ap (λ (n : ℕ). list_all (alike_at left right) (range_with_len 0 n)) c.places-then-places.ensures in
+    subst (λ (b : Bool). Decides b (left ≡ right)) (sym every) (all_alike left right size)

@@ -1,14 +1,5 @@
-use Rattle.std.proofs.Common.{rules, List, [], ◌∷◌, ◌≡◌, ℕ, ◌+◌, ◌-◌, ◌*◌, ◌<◌, ◌≤◌, length, ◌/◌, ◌%◌, Bool, true, false, nat_eq, nat_lt, ◌++◌, slice_index_or, slice_set, bit_and, bit_or, Fits, w8, w32, w64, Bor, MutBor, ap}
-use Rattle.slot.specs.declared.lists.Lists.{Lists}
-use Rattle.compare.specs.declared.call.Call.{Call}
-use Rattle.compare.specs.declared.call.Plan.{Plan}
-use Rattle.compare.specs.Meetings.{send, gap, sweep, step_on, plan_on, Account, Met}
-use Rattle.compare.specs.Histories.{Told}
 use Rattle.compare.proofs.Tellings.{told_send, told_gap, told_sweep}
 use Rattle.compare.proofs.playing.meet.Goals as goal
-
-pub sweep-requires : goal.sweep-requires
-sweep-requires g c = ?
 
 pub returns-in-Send : goal.returns-in-Send
 returns-in-Send g c =

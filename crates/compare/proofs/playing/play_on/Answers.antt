@@ -1,7 +1,3 @@
-use Rattle.std.proofs.Common.{List, Some, None, Option, Result, subst, sym}
-use Rattle.protocol.specs.declared.refusal.Refusal.{Refusal}
-use Rattle.slot.specs.declared.ending.Report.{Report}
-use Rattle.compare.specs.Meetings.{steps_on}
 use Rattle.compare.proofs.Tellings.{told_none, told_more}
 use Rattle.compare.proofs.playing.play_on.Goals as goal
 
