@@ -1,6 +1,6 @@
 // Fields of every nesting, up to some layers: kinds of field like any other.
 ghost use Rattle.std.specs.Prelude.{true, false};
-ghost use Rattle.field_cases.specs.Nestings.{leaf_tags, leaf_few, node_tags, node_few};
+ghost use Rattle.plays.specs.Nestings.{leaf_tags, leaf_few, node_tags, node_few};
 
 use bench::bench::Bench;
 use bench::single::Single;
@@ -13,12 +13,12 @@ use protocol::refusal::Refusal;
 use record::Tag;
 
 // What stands below the outermost layer of a nesting of at most three.
-pub(crate) type Below<'a> = Node<Node<Leaf<'a>>>;
+pub type Below<'a> = Node<Node<Leaf<'a>>>;
 
 // What stands at the bottom. An enum hands each call on by a match: a boxed `dyn` would need the same calls handed on
 // for the box, and an allocation for each layer.
 #[derive(Drop)]
-pub(crate) enum Leaf<'a> {
+pub enum Leaf<'a> {
     Table(Bench<'a>),
     Lone(Single),
 }
@@ -65,7 +65,7 @@ impl<'a> Field for Leaf<'a> {
 
 // A field with at most one layer more over it, as an enum for the same reason.
 #[derive(Drop)]
-pub(crate) enum Node<F> {
+pub enum Node<F> {
     Bare(F),
     Spoiled(Spoiler<F>),
     Paired(Pair<F, F>),

@@ -1,7 +1,12 @@
 // The words of a question that no other program has, read.
+ghost use Rattle.spelling.specs.Misspellings.{Reads};
+ghost use Rattle.spelling.specs.declared.misspelt.Misspelt.TheVariants.{Bytes};
+ghost use Rattle.plays.specs.Rows.{SpellsRow};
+
 use anyhow::Context;
 use record::{SIZE, State, Tag};
-use spelling::hexadecimal::{read_byte, read_bytes};
+use spelling::hexadecimal::{read_array, read_byte, read_bytes};
+use spelling::misspelt::Misspelt;
 use spelling::words::{read_bit, read_locks, read_mark, read_permission, word};
 use std::alloc::Global;
 
@@ -31,19 +36,9 @@ pub(crate) fn read_tag(heap: Global, text: &str) -> anyhow::Result<Tag> {
     })
 }
 
-// Digits of a row of coins, of which the last sixteen count.
-pub(crate) fn read_row(text: &str) -> anyhow::Result<u64> {
-    text.chars()
-        .try_fold(0u64, |row, letter| {
-            Some(row << 4 | u64::from(digit(letter)?))
-        })
-        .context("no row of coins")
-}
-
-// Small letters are no digits here.
-fn digit(letter: char) -> Option<u32> {
-    if letter.is_ascii_lowercase() {
-        return None;
-    }
-    letter.to_digit(16)
+// A row of coins, by its sixteen digits.
+pub fn read_row(text: &str) -> Result<u64, Misspelt>
+    ensures { Reads SpellsRow Bytes text.now result }
+{
+    Ok(u64::from_be_bytes(read_array::<8>(text)?))
 }

@@ -17,7 +17,7 @@ use std::str::{FromStr, SplitWhitespace};
 
 // Why there is no field.
 #[derive(Drop)]
-pub(crate) enum Trouble {
+pub enum Trouble {
     // A part of it was refused.
     Refused(Refusal),
     // The words make no sense.
@@ -38,7 +38,7 @@ impl<T: Drop> From<Declined<T>> for Trouble {
 
 // What fields are built from: the words of a nesting, one after the other, and the tags that none has yet.
 #[derive(Drop)]
-pub(crate) struct Source<'w, 'a> {
+pub struct Source<'w, 'a> {
     words: Peekable<SplitWhitespace<'w>>,
     tags: &'a mut [Tag],
 }
@@ -67,7 +67,7 @@ impl<'w, 'a> Source<'w, 'a> {
 }
 
 // The field that a nesting means, of all tags of a table.
-pub(crate) fn built<'a, F: Field + Build<'a> + Drop>(
+pub fn built<'a, F: Field + Build<'a> + Drop>(
     nesting: &str,
     tags: &'a mut [Tag],
 ) -> Result<Node<F>, Trouble> {
@@ -82,7 +82,7 @@ pub(crate) fn built<'a, F: Field + Build<'a> + Drop>(
     parts.joined()
 }
 
-pub(crate) trait Build<'a>: Sized {
+pub trait Build<'a>: Sized {
     fn build(source: &mut Source<'_, 'a>) -> Result<Self, Trouble>;
 }
 

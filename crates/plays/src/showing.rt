@@ -4,7 +4,7 @@ use record::Tag;
 use std::fmt;
 
 // Bytes up to the last that is not 00.
-pub(crate) fn without_end(bytes: &[u8]) -> &[u8] {
+pub fn without_end(bytes: &[u8]) -> &[u8] {
     let mut bytes = bytes;
     while let [front @ .., 0] = bytes {
         bytes = front;
@@ -14,7 +14,7 @@ pub(crate) fn without_end(bytes: &[u8]) -> &[u8] {
 
 // A number of 64 bits that tells what bytes it has taken (FNV-1a).
 #[derive(Clone, Copy)]
-pub(crate) struct Fingerprint {
+pub struct Fingerprint {
     value: u64,
 }
 
@@ -54,14 +54,14 @@ impl Fingerprint {
     }
 }
 
-pub(crate) fn of_bytes(bytes: &[u8]) -> Fingerprint {
+pub fn of_bytes(bytes: &[u8]) -> Fingerprint {
     let mut fingerprint = Fingerprint::new();
     fingerprint.take_all(bytes);
     fingerprint
 }
 
 // Of all records of a field, by place.
-pub(crate) fn of_tags<F: Field>(field: &F) -> Fingerprint {
+pub fn of_tags<F: Field>(field: &F) -> Fingerprint {
     let mut fingerprint = Fingerprint::new();
     for tag in (0..field.places()).filter_map(|place| field.tag(place)) {
         fingerprint.take_tag(tag);

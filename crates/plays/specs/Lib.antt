@@ -1,1 +1,2 @@
 pub mod Nestings
+pub mod Rows

@@ -1,0 +1,146 @@
+// Plays, line by line: `tag STATE FLAG COUNTER MARK PERMISSION LOCKS MEMORY` and `find SERIAL` about a table, then `field
+// NESTING` over it, then questions to that field, then `end`.
+use crate::asking::Asked;
+use crate::building::{Build, Trouble, built};
+use crate::nesting::Below;
+use crate::reading::read_tag;
+use crate::showing::of_tags;
+use anyhow::{Context, bail, ensure};
+use bench::bench::{Bench, place_of};
+use field::field::Field;
+use record::Tag;
+use spelling::hexadecimal::read_bytes;
+use std::io::{BufRead, BufReader};
+
+// What a program answers to the questions about a field.
+pub trait Answer {
+    fn answer<R: Print + AllocGlobal, F: Field>(
+        &self,
+        rt: &R,
+        asked: &mut Asked<F>,
+        verb: &str,
+        rest: &str,
+    ) -> anyhow::Result<()>;
+}
+
+// What a play begins with: a table, which is filled tag by tag.
+#[derive(Drop)]
+struct Stage<'a, R> {
+    rt: &'a R,
+    table: Vec<Tag>,
+}
+
+impl<R: Print + AllocGlobal> Stage<'_, R> {
+    // A question before there is a field: one tag more, or where a serial number is.
+    fn prepare(&mut self, question: &str) -> anyhow::Result<()> {
+        let (verb, rest) = question
+            .split_once(' ')
+            .context("no question about a table")?;
+        // A match and no table of closures, since each verb has words of its own.
+        match verb {
+            "tag" => self.add(rest),
+            "find" => self.find(rest),
+            _ => bail!("no question about a table"),
+        }
+    }
+
+    fn add(&mut self, text: &str) -> anyhow::Result<()> {
+        self.table.push(read_tag(self.rt.alloc(), text)?)?;
+        println!(self.rt; "{}", self.table.len())?;
+        Ok(())
+    }
+
+    fn find(&self, text: &str) -> anyhow::Result<()> {
+        let serial = read_bytes(self.rt.alloc(), text)?;
+        match place_of(self.table.as_slice(), serial.as_slice()) {
+            Some(place) => println!(self.rt; "{place}")?,
+            None => println!(self.rt; "-")?,
+        }
+        Ok(())
+    }
+}
+
+fn answer_all<R: Print + AllocGlobal, A: Answer, F: Field + Drop>(
+    rt: &R,
+    answers: &A,
+    field: F,
+    questions: &[String],
+) -> anyhow::Result<()> {
+    let mut asked = Asked::new(field);
+    for question in questions {
+        let (verb, rest) = question
+            .as_str()
+            .split_once(' ')
+            .context("no question to a field")?;
+        answers.answer(rt, &mut asked, verb, rest)?;
+    }
+    Ok(())
+}
+
+// Builds the field of a play, and puts the questions to it. A refused field is one of no tags. What stands below the
+// outermost layer is a parameter, since the toolchain proves this for any such field, and not at a nesting written out.
+fn perform<'a, R: Print + AllocGlobal, A: Answer, F: Field + Build<'a> + Drop>(
+    rt: &R,
+    answers: &A,
+    table: &'a mut [Tag],
+    nesting: &str,
+    questions: &[String],
+) -> anyhow::Result<()> {
+    match built::<F>(nesting, table) {
+        Ok(field) => {
+            println!(rt; "places {} {}", field.places(), of_tags(&field))?;
+            answer_all(rt, answers, field, questions)
+        }
+        Err(Trouble::Refused(refusal)) => {
+            println!(rt; "refused {}", refusal.number())?;
+            answer_all(rt, answers, Bench::new(), questions)
+        }
+        Err(Trouble::Words(error)) => Err(error),
+    }
+}
+
+fn play<R: Print + AllocGlobal, A: Answer>(
+    rt: &R,
+    answers: &A,
+    lines: &[String],
+) -> anyhow::Result<()> {
+    let mut stage = Stage {
+        rt,
+        table: Vec::new(rt.alloc()),
+    };
+    let mut lines = lines;
+    while let [line, questions @ ..] = lines {
+        if let Some(nesting) = line.as_str().strip_prefix("field ") {
+            return perform::<R, A, Below>(
+                rt,
+                answers,
+                stage.table.as_mut_slice(),
+                nesting,
+                questions,
+            );
+        }
+        stage.prepare(line.as_str())?;
+        lines = questions;
+    }
+    bail!("a play without a field")
+}
+
+// Plays what stands in the input, play after play.
+pub fn play_all<R: Input + Print + AllocGlobal, A: Answer>(
+    rt: &R,
+    answers: &A,
+) -> anyhow::Result<()> {
+    let mut lines = Vec::new(rt.alloc());
+    for line in BufReader::new(rt.alloc(), rt.reader())?.lines(rt.alloc()) {
+        let line = line?;
+        if line.as_str() == "end" {
+            play(rt, answers, lines.as_slice())?;
+            println!(rt; "end")?;
+            lines.clear();
+        } else {
+            lines.push(line)?;
+        }
+    }
+    ensure!(lines.is_empty(), "a play without an end");
+    Ok(())
+}
