@@ -1,4 +1,8 @@
 // A field, built as words say: `bench N`, `single`, `pair LEFT RIGHT`, `spoiler K BELOW`.
+ghost use Rattle.std.specs.Prelude.{◌≡◌, ◌++◌, length, IfOk};
+ghost use Rattle.plays.specs.Builds.{parts_tags};
+ghost use Rattle.plays.specs.Nestings.{leaf_tags, node_tags};
+
 use crate::nesting::{Leaf, Node};
 use anyhow::{Context, anyhow};
 use bench::bench::Bench;
@@ -45,20 +49,29 @@ pub struct Source<'w, 'a> {
 
 impl<'w, 'a> Source<'w, 'a> {
     // Whether the next word is this one, which is then taken.
-    fn takes(&mut self, word: &str) -> bool {
+    fn takes(&mut self, word: &str) -> bool
+        ensures { self.new.tags ≡ self.old.tags }
+    {
         self.words.next_if(|next| *next == word).is_some()
     }
 
-    fn word(&mut self) -> anyhow::Result<&'w str> {
+    fn word(&mut self) -> anyhow::Result<&'w str>
+        ensures { self.new.tags ≡ self.old.tags }
+    {
         Ok(word(self.words.next())?)
     }
 
-    fn number<T: FromStr<Err = ParseIntError>>(&mut self) -> anyhow::Result<T> {
+    fn number<T: FromStr<Err = ParseIntError>>(&mut self) -> anyhow::Result<T>
+        ensures { self.new.tags ≡ self.old.tags }
+    {
         Ok(self.word()?.parse::<T>()?)
     }
 
     // So many of the tags, the first of them.
-    fn table(&mut self, places: usize) -> anyhow::Result<&'a mut [Tag]> {
+    fn table(&mut self, places: usize) -> anyhow::Result<&'a mut [Tag]>
+        ensures tags { IfOk result (λ front. self.old.tags.now ≡ front.now ++ self.new.tags.now) }
+        ensures places { IfOk result (λ front. length front.now ≡ places) }
+    {
         let tags = mem::replace(&mut self.tags, &mut []);
         let (front, rest) = tags.split_at_mut_checked(places).context("too few tags")?;
         self.tags = rest;
@@ -67,10 +80,12 @@ impl<'w, 'a> Source<'w, 'a> {
 }
 
 // The field that a nesting means, of all tags of a table.
-pub fn built<'a, F: Field + Build<'a> + Drop>(
+pub fn built<'a, F: Build<'a> + Drop>(
     nesting: &str,
     tags: &'a mut [Tag],
-) -> Result<Node<F>, Trouble> {
+) -> Result<Node<F>, Trouble>
+    ensures { IfOk result (λ n. node_tags F.tags n ≡ tags.old) }
+{
     let mut source = Source {
         words: nesting.split_whitespace().peekable(),
         tags,
@@ -82,8 +97,10 @@ pub fn built<'a, F: Field + Build<'a> + Drop>(
     parts.joined()
 }
 
-pub trait Build<'a>: Sized {
-    fn build(source: &mut Source<'_, 'a>) -> Result<Self, Trouble>;
+// A kind of field that words can tell. It is built of the first tags, and the others stay.
+pub trait Build<'a>: Field + Sized {
+    fn build(source: &mut Source<'_, 'a>) -> Result<Self, Trouble>
+        ensures { IfOk result (λ f. source.old.tags.now ≡ Self.tags f ++ source.new.tags.now) };
 }
 
 impl<'a> Build<'a> for Leaf<'a> {
@@ -96,14 +113,18 @@ impl<'a> Build<'a> for Leaf<'a> {
     }
 }
 
-fn bench_leaf<'a>(source: &mut Source<'_, 'a>) -> Result<Leaf<'a>, Trouble> {
+fn bench_leaf<'a>(source: &mut Source<'_, 'a>) -> Result<Leaf<'a>, Trouble>
+    ensures { IfOk result (λ leaf. source.old.tags.now ≡ leaf_tags leaf ++ source.new.tags.now) }
+{
     let places = source.number::<usize>()?;
     let mut bench = Bench::new();
     bench.set_table(source.table(places)?)?;
     Ok(Leaf::Table(bench))
 }
 
-fn single_leaf<'a>(source: &mut Source<'_, 'a>) -> Result<Leaf<'a>, Trouble> {
+fn single_leaf<'a>(source: &mut Source<'_, 'a>) -> Result<Leaf<'a>, Trouble>
+    ensures { IfOk result (λ leaf. source.old.tags.now ≡ leaf_tags leaf ++ source.new.tags.now) }
+{
     let tag = source.table(1)?.first().context("too few tags")?;
     Ok(Leaf::Lone(Single::new(*tag)))
 }
@@ -116,10 +137,11 @@ enum Parts<F> {
     Paired(F, F),
 }
 
-impl<F: Field> Parts<F> {
+impl<F> Parts<F> {
     fn read<'a>(source: &mut Source<'_, 'a>) -> Result<Parts<F>, Trouble>
     where
         F: Build<'a> + Drop,
+        ensures { IfOk result (λ parts. source.old.tags.now ≡ parts_tags F.tags parts ++ source.new.tags.now) }
     {
         if source.takes("pair") {
             let left = F::build(source)?;
@@ -134,7 +156,8 @@ impl<F: Field> Parts<F> {
 
     fn joined(self) -> Result<Node<F>, Trouble>
     where
-        F: Drop,
+        F: Field + Drop,
+        ensures { IfOk result (λ n. node_tags F.tags n ≡ parts_tags F.tags self) }
     {
         Ok(match self {
             Parts::Bare(field) => Node::Bare(field),
@@ -144,7 +167,7 @@ impl<F: Field> Parts<F> {
     }
 }
 
-impl<'a, F: Field + Build<'a> + Drop> Build<'a> for Node<F> {
+impl<'a, F: Build<'a> + Drop> Build<'a> for Node<F> {
     fn build(source: &mut Source<'_, 'a>) -> Result<Node<F>, Trouble> {
         Parts::read(source)?.joined()
     }

@@ -79,7 +79,7 @@ fn answer_all<R: Print + AllocGlobal, A: Answer, F: Field + Drop>(
 
 // Builds the field of a play, and puts the questions to it. A refused field is one of no tags. What stands below the
 // outermost layer is a parameter, since the toolchain proves this for any such field, and not at a nesting written out.
-fn perform<'a, R: Print + AllocGlobal, A: Answer, F: Field + Build<'a> + Drop>(
+fn perform<'a, R: Print + AllocGlobal, A: Answer, F: Build<'a> + Drop>(
     rt: &R,
     answers: &A,
     table: &'a mut [Tag],

@@ -1,12 +1,20 @@
 // Answers, as they are written.
+ghost use Rattle.std.specs.Prelude.{◌≡◌, ◌≢◌, ℕ, List, [], ◌∷◌, ◌++◌, map, fold, replicate};
+ghost use Rattle.std.specs.Int.{from_bool};
+ghost use Rattle.plays.specs.Fingerprints.{blank, byte_taken, fingerprint, tag_taken, tags_fingerprint};
+
 use field::field::Field;
-use record::Tag;
+use record::{SIZE, Tag};
 use std::fmt;
+use std::marker::Model;
 
 // Bytes up to the last that is not 00.
-pub fn without_end(bytes: &[u8]) -> &[u8] {
+pub fn without_end(bytes: &[u8]) -> &[u8]
+    ensures end { (n : ℕ) × (bytes.now ≡ result.now ++ replicate n 0) }
+    ensures last { (front : List ℕ) → result.now ≢ front ++ 0 ∷ [] }
+{
     let mut bytes = bytes;
-    while let [front @ .., 0] = bytes {
+    while let Some((0, front)) = bytes.split_last() {
         bytes = front;
     }
     bytes
@@ -18,6 +26,15 @@ pub struct Fingerprint {
     value: u64,
 }
 
+// To its users it is the number.
+impl Model for Fingerprint {
+    ghost Value = { ℕ };
+
+    ghost view = { λ f. f.value };
+
+    ghost inverse = { λ n. record { value = n } };
+}
+
 impl fmt::Display for Fingerprint {
     fn fmt<W: fmt::Write>(&self, f: &mut fmt::Formatter<W>) -> fmt::Result {
         write!(f, "{:016X}", self.value)
@@ -25,46 +42,65 @@ impl fmt::Display for Fingerprint {
 }
 
 impl Fingerprint {
-    fn new() -> Fingerprint {
+    fn new() -> Fingerprint
+        ensures { result ≡ blank }
+    {
         Fingerprint {
             value: 0xcbf2_9ce4_8422_2325,
         }
     }
 
-    fn take(&mut self, byte: u8) {
-        self.value = (self.value ^ u64::from(byte)).wrapping_mul(0x100_0000_01b3);
-    }
-
-    fn take_all<T: Copy + Into<u8>>(&mut self, row: &[T]) {
-        for part in row {
-            self.take((*part).into());
+    #[tactic(auto, unfolding(crate::specs::Fingerprints::byte_taken))]
+    fn with(self, byte: u8) -> Fingerprint
+        ensures { result ≡ byte_taken self byte }
+    {
+        Fingerprint {
+            value: (self.value ^ u64::from(byte)).wrapping_mul(0x100_0000_01b3),
         }
     }
 
+    fn with_bytes(self, bytes: &[u8]) -> Fingerprint
+        ensures { result ≡ fold byte_taken self bytes.now }
+    {
+        bytes.iter().fold(self, |value, byte| value.with(*byte))
+    }
+
+    fn with_locks(self, locks: &[bool; SIZE]) -> Fingerprint
+        ensures { result ≡ fold byte_taken self (map from_bool locks.now) }
+    {
+        locks.iter().fold(self, |value, locked| value.with(u8::from(*locked)))
+    }
+
     // Every part of a record.
-    fn take_tag(&mut self, tag: &Tag) {
-        self.take_all(&tag.memory);
-        self.take_all(&tag.locks);
-        self.take(tag.state as u8);
-        self.take(u8::from(tag.identified));
-        self.take(tag.counter);
-        self.take(tag.mark.number());
-        self.take(u8::from(tag.permission.is_some()));
-        self.take(tag.permission.unwrap_or(0));
+    fn with_tag(self, tag: &Tag) -> Fingerprint
+        ensures { result ≡ tag_taken self tag.now }
+    {
+        self.with_bytes(&tag.memory)
+            .with_locks(&tag.locks)
+            .with(tag.state as u8)
+            .with(u8::from(tag.identified))
+            .with(tag.counter)
+            .with(tag.mark.number())
+            .with(u8::from(tag.permission.is_some()))
+            .with(tag.permission.unwrap_or(0))
     }
 }
 
-pub fn of_bytes(bytes: &[u8]) -> Fingerprint {
-    let mut fingerprint = Fingerprint::new();
-    fingerprint.take_all(bytes);
-    fingerprint
+pub fn of_bytes(bytes: &[u8]) -> Fingerprint
+    ensures { result ≡ fingerprint bytes.now }
+{
+    Fingerprint::new().with_bytes(bytes)
 }
 
 // Of all records of a field, by place.
-pub fn of_tags<F: Field>(field: &F) -> Fingerprint {
+pub fn of_tags<F: Field>(field: &F) -> Fingerprint
+    ensures { result ≡ tags_fingerprint (F.Field.tags field.now) }
+{
     let mut fingerprint = Fingerprint::new();
-    for tag in (0..field.places()).filter_map(|place| field.tag(place)) {
-        fingerprint.take_tag(tag);
+    for place in 0..field.places() {
+        if let Some(tag) = field.tag(place) {
+            fingerprint = fingerprint.with_tag(tag);
+        }
     }
     fingerprint
 }

@@ -1,6 +1,10 @@
--- Each byte taken away leaves one less.
-use Rattle.std.proofs.Common.{length}
+-- What is taken away is 00 alone, and each byte taken away leaves one less.
+use Rattle.std.proofs.Common.{◌≡◌, ℕ, ◌++◌, length}
+use Rattle.std.specs.Prelude.{replicate}
 use Rattle.plays.proofs.showing.without_end.Given as goal
 
-abbrev pub decreases-loop-bytes : goal.decreases-loop-bytes
-decreases-loop-bytes l = length l.bytes
+abbrev pub invariant-loop-front : goal.invariant-loop-front
+invariant-loop-front l = (n : ℕ) × (l.fn.bytes ≡ l.bytes ++ replicate n 0)
+
+abbrev pub decreases-loop-front : goal.decreases-loop-front
+decreases-loop-front l = length l.bytes
