@@ -1,4 +1,4 @@
 pub mod Builds
 pub mod Fingerprints
 pub mod Nestings
-pub mod Rows
+pub mod Questions

@@ -1,42 +1,47 @@
 // A field that is asked, question after question.
-ghost use Rattle.std.specs.Prelude.{◌≡◌, ◌≤◌, length, OnErr, if◌then◌else◌, Some, None, replicate, IfOk};
-ghost use Rattle.field.specs.Sends.{sent_to, refusal_in, is_short, gapped_all, on_air};
+ghost use Rattle.std.specs.Prelude.{◌≡◌, ◌≤◌, ◌++◌, take, drop, replicate, if◌then◌else◌, Some, None, IfOk, OnErr};
 ghost use Rattle.frame.specs.Openings.{opening};
 ghost use Rattle.field.specs.Airs.{MayHear};
+ghost use Rattle.field.specs.Sends.{on_air, is_short, sent_to, refusal_in, left_in, gapped_all};
+ghost use Rattle.plays.specs.Fingerprints.{tags_fingerprint};
+ghost use Rattle.plays.specs.Questions.{SpellsSending};
 
-use crate::reading::read_row;
+use crate::reading::{read_row, split_word};
 use crate::showing::{Fingerprint, of_bytes, of_tags, without_end};
 use anyhow::ensure;
 use field::field::{Field, ROOM};
 use field::hearing::Hearing;
 use protocol::refusal::Refusal;
 use spelling::hexadecimal::{Hex, read_bytes};
-use spelling::words::word;
 use std::alloc::Global;
 use std::fmt;
 
 // How long the buffer of a play is, and what it holds at first.
-const BUFFER: usize = 300;
+pub const BUFFER: usize = 300;
 
 const FILLING: u8 = 0xa5;
 
-// What is sent: ROW ROOM FRAME.
+// What is sent.
 #[derive(Drop)]
 pub struct Sending {
-    row: u64,
+    pub row: u64,
     // How much of the buffer is lent.
-    room: usize,
-    frame: Vec<u8>,
+    pub room: usize,
+    pub frame: Vec<u8>,
     ghost inside: { room ≤ 300 },
 }
 
 impl Sending {
-    pub fn read(heap: Global, text: &str) -> anyhow::Result<Sending> {
-        let mut words = text.split_whitespace();
-        let row = read_row(word(words.next())?)?;
-        let room = word(words.next())?.parse::<usize>()?;
-        let frame = read_bytes(heap, word(words.next())?)?;
+    // By three words, ROW ROOM FRAME.
+    pub fn read(heap: Global, text: &str) -> anyhow::Result<Sending>
+        ensures { IfOk result (λ s. SpellsSending text.now s.row s.room s.frame.items) }
+    {
+        let (row, rest) = split_word(text)?;
+        let (room, frame) = split_word(rest)?;
+        let row = read_row(row)?;
+        let room = room.parse::<usize>()?;
         ensure!(room <= BUFFER, "more room than the buffer has");
+        let frame = read_bytes(heap, frame)?;
         Ok(Sending { row, room, frame })
     }
 }
@@ -63,7 +68,8 @@ impl<F: Field> Asked<F> {
         ensures refusal { refusal_in result.heard ≡ (if is_short sending.now.room then Some 5 else None) }
         ensures tags { F.Field.tags self.new.field ≡ sent_to sending.now.room sending.now.frame.items sending.now.row (F.Field.tags self.old.field) }
         ensures hearing { IfOk result.heard (λ h. MayHear (on_air (opening sending.now.frame.items) sending.now.row (F.Field.tags self.old.field)) h) }
-        ensures buffer { result.buffer ≡ self.new.buffer }
+        ensures buffer { self.new.buffer ≡ left_in result.heard (on_air (opening sending.now.frame.items) sending.now.row (F.Field.tags self.old.field)) (take sending.now.room self.old.buffer) ++ drop sending.now.room self.old.buffer }
+        ensures shown { (result.buffer ≡ self.new.buffer) × (result.tags ≡ tags_fingerprint (F.Field.tags self.new.field)) }
         ensures same { OnErr result.heard (self.new ≡ self.old) }
     {
         // A copy is lent, since a part of the buffer beside the field gets no proof today.
@@ -82,6 +88,7 @@ impl<F: Field> Asked<F> {
     pub fn pass(&mut self, microseconds: u32) -> Fingerprint
         ensures tags { F.Field.tags self.new.field ≡ gapped_all microseconds (F.Field.tags self.old.field) }
         ensures buffer { self.new.buffer ≡ self.old.buffer }
+        ensures shown { result ≡ tags_fingerprint (F.Field.tags self.new.field) }
     {
         self.field.pass(microseconds);
         of_tags(&self.field)
@@ -91,9 +98,9 @@ impl<F: Field> Asked<F> {
 // What came of a send.
 #[derive(Drop)]
 pub struct Sent {
-    heard: Result<Hearing, Refusal>,
-    buffer: [u8; BUFFER],
-    tags: Fingerprint,
+    pub heard: Result<Hearing, Refusal>,
+    pub buffer: [u8; BUFFER],
+    pub tags: Fingerprint,
 }
 
 impl fmt::Display for Sent {

@@ -3,9 +3,9 @@
 use crate::asking::Asked;
 use crate::building::{Build, Trouble, built};
 use crate::nesting::Below;
-use crate::reading::read_tag;
+use crate::reading::{read_tag, split_word};
 use crate::showing::of_tags;
-use anyhow::{Context, bail, ensure};
+use anyhow::{bail, ensure};
 use bench::bench::{Bench, place_of};
 use field::field::Field;
 use record::Tag;
@@ -33,9 +33,7 @@ struct Stage<'a, R> {
 impl<R: Print + AllocGlobal> Stage<'_, R> {
     // A question before there is a field: one tag more, or where a serial number is.
     fn prepare(&mut self, question: &str) -> anyhow::Result<()> {
-        let (verb, rest) = question
-            .split_once(' ')
-            .context("no question about a table")?;
+        let (verb, rest) = split_word(question)?;
         // A match and no table of closures, since each verb has words of its own.
         match verb {
             "tag" => self.add(rest),
@@ -68,10 +66,7 @@ fn answer_all<R: Print + AllocGlobal, A: Answer, F: Field + Drop>(
 ) -> anyhow::Result<()> {
     let mut asked = Asked::new(field);
     for question in questions {
-        let (verb, rest) = question
-            .as_str()
-            .split_once(' ')
-            .context("no question to a field")?;
+        let (verb, rest) = split_word(question.as_str())?;
         answers.answer(rt, &mut asked, verb, rest)?;
     }
     Ok(())

@@ -1,7 +1,8 @@
 // The words of a question that no other program has, read.
+ghost use Rattle.std.specs.Prelude.{◌≡◌, IfOk, IfErr};
 ghost use Rattle.spelling.specs.Misspellings.{Reads};
-ghost use Rattle.spelling.specs.declared.misspelt.Misspelt.TheVariants.{Bytes};
-ghost use Rattle.plays.specs.Rows.{SpellsRow};
+ghost use Rattle.spelling.specs.declared.misspelt.Misspelt.TheVariants.{Bytes, Missing};
+ghost use Rattle.plays.specs.Questions.{SpellsRow, first_word, behind_first, IsOneWord};
 
 use anyhow::Context;
 use record::{SIZE, State, Tag};
@@ -34,6 +35,14 @@ pub(crate) fn read_tag(heap: Global, text: &str) -> anyhow::Result<Tag> {
         locks: read_locks(word(words.next())?)?,
         memory: read_memory(heap, word(words.next())?)?,
     })
+}
+
+// The first word of several, and what stands behind the space after it.
+pub fn split_word(text: &str) -> Result<(&str, &str), Misspelt>
+    ensures ok { IfOk result (λ p. (p.0.now ≡ first_word text.now) × (p.1.now ≡ behind_first text.now)) }
+    ensures err { IfErr result (λ e. (e ≡ Missing) × IsOneWord text.now) }
+{
+    text.split_once(' ').ok_or(Misspelt::Missing)
 }
 
 // A row of coins, by its sixteen digits.

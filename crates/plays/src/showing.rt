@@ -68,7 +68,9 @@ impl Fingerprint {
     fn with_locks(self, locks: &[bool; SIZE]) -> Fingerprint
         ensures { result ≡ fold byte_taken self (map from_bool locks.now) }
     {
-        locks.iter().fold(self, |value, locked| value.with(u8::from(*locked)))
+        locks
+            .iter()
+            .fold(self, |value, locked| value.with(u8::from(*locked)))
     }
 
     // Every part of a record.

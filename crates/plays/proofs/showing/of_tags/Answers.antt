@@ -1,5 +1,5 @@
 -- The tag at a place is taken next.
-use Rattle.std.proofs.Common.{◌≡◌, ℕ, ◌+◌, List, [], ◌∷◌, ◌++◌, take, fold, ap, sym, ◌∙◌, rules, Some, None, ◌<◌, length, arith}
+use Rattle.std.proofs.Common.{◌≡◌, ℕ, ◌+◌, List, [], ◌∷◌, ◌++◌, take, fold, ap, sym, ◌∙◌, Some, None, ◌<◌, length, arith}
 use Rattle.std.specs.List.{slice_get}
 use Rattle.std.proofs.lemmas.List.{take_more}
 use Rattle.std.proofs.lemmas.List.Sums.{fold-append}
@@ -26,6 +26,11 @@ within xs i e h = grind (arith, slice_get_cases)
 
 pub loop-place-preserved : goal.loop-place-preserved
 loop-place-preserved g c =
-    elim c.match-tag.branch
-    [ in-Some w ↦ w.fingerprint-is ∙ w.with_tag-fingerprint.ensures ∙ after (g.F.Field.tags c.args.field.now) c.loop-place.place w.in-Some.tag.now c.loop-place.fingerprint (sym w.in-Some.ensures) c.loop-place.invariant
-    | in_default w ↦ absurd (within (g.F.Field.tags c.args.field.now) c.loop-place.place w.in_default.ensures (omega (arith, c.places-place-end.ensures))) ]
+    let tags = g.F.Field.tags c.args.field.now in
+    let loop = c.loop-place in
+    elim c.match-tag.branch [
+      | in-Some w ↦
+          w.fingerprint-is ∙ w.with_tag-fingerprint.ensures
+          ∙ after tags loop.place w.in-Some.tag.now loop.fingerprint (sym w.in-Some.ensures) loop.invariant
+      | in_default w ↦ absurd (within tags loop.place w.in_default.ensures (omega (arith, c.places-place-end.ensures)))
+    ]

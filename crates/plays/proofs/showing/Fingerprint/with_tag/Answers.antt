@@ -1,5 +1,5 @@
 -- The parts are taken one after the other, and so is their list.
-use Rattle.std.proofs.Common.{◌≡◌, ℕ, List, [], ◌∷◌, ◌++◌, map, fold, ◌∙◌, ap, rules}
+use Rattle.std.proofs.Common.{◌≡◌, ℕ, List, ◌++◌, fold, ◌∙◌, ap, rules}
 use Rattle.std.proofs.lemmas.List.Sums.{fold-append}
 use Rattle.plays.specs.Fingerprints.{byte_taken, tag_taken}
 use Rattle.plays.proofs.showing.Fingerprint.with_tag.Goals as goal

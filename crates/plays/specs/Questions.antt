@@ -1,0 +1,33 @@
+-- What the words of a question spell. Assumes nothing.
+use Rattle.std.specs.Prelude.{◌≡◌, ℕ, ◌==◌, Bool, List, length}
+use Rattle.std.specs.Int.{w64, from_be_bytes}
+use Rattle.std.specs.List.{before_first, after_first, position_or_len}
+use Rattle.std.specs.Str.Parse.{IsNumeral, digits_value, without_leading_plus}
+use Rattle.spelling.specs.Hexadecimal.{SpellsArray, SpellsBytes}
+
+abbrev pub is_space : ℕ → Bool
+is_space byte = byte == 32
+
+-- What stands in front of the first space, and what stands behind it.
+abbrev pub first_word : List ℕ → List ℕ
+first_word text = before_first is_space text
+
+abbrev pub behind_first : List ℕ → List ℕ
+behind_first text = after_first is_space text
+
+-- There is no space.
+abbrev pub IsOneWord : List ℕ → Type 0
+IsOneWord text = position_or_len is_space text ≡ length text
+
+-- A text spells a row of coins by the digits of its eight bytes, the highest first.
+abbrev pub SpellsRow : List ℕ → ℕ → Type 0
+SpellsRow text row = (bytes : List ℕ) × SpellsArray 8 text bytes × (row ≡ from_be_bytes w64 bytes)
+
+-- It spells a number in decimal.
+abbrev pub SpellsNumber : List ℕ → ℕ → Type 0
+SpellsNumber text n = IsNumeral 10 (without_leading_plus text) × (n ≡ digits_value 10 (without_leading_plus text))
+
+-- It spells what is sent by its three words.
+abbrev pub SpellsSending : List ℕ → ℕ → ℕ → List ℕ → Type 0
+SpellsSending text row room frame =
+    SpellsRow (first_word text) row × SpellsNumber (first_word (behind_first text)) room × SpellsBytes (behind_first (behind_first text)) frame
