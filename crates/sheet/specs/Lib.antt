@@ -1,0 +1,3 @@
+pub mod Fronts
+pub mod Papers
+pub mod Sheets

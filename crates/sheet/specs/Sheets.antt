@@ -1,0 +1,49 @@
+-- The printed sheet of a sweep, byte by byte. Assumes nothing.
+use Rattle.std.specs.Prelude.{ℕ, ◌+◌, ◌-◌, cond, List, [], ◌∷◌, ◌++◌, length, nat_lt, replicate, decimal}
+use Rattle.std.specs.List.{flat_map}
+use Rattle.protocol.specs.Commands.{code_of}
+use Rattle.field.specs.Airs.{hearing_number}
+use Rattle.frame.specs.Makings.{Making, made, unmade}
+use Rattle.slot.specs.declared.row.SlotRow.{SlotRow}
+use Rattle.slot.specs.declared.ending.Report.{Report}
+use Rattle.slot.specs.Countings.{end_number}
+
+abbrev pub blank : ℕ
+blank = 32
+
+abbrev pub line_feed : ℕ
+line_feed = 10
+
+-- A number in a column: blanks before it, and the number whole.
+unfoldable pub column : ℕ → ℕ → List ℕ
+column width number = replicate (width - length (decimal number)) blank ++ decimal number
+
+-- A line of numbers.
+unfoldable pub line : ℕ → List ℕ → List ℕ
+line width numbers = flat_map (column width) numbers ++ line_feed ∷ []
+
+-- The slots, which are numbered.
+abbrev pub slot_line : ℕ → SlotRow → List ℕ
+slot_line number slot = line 6 (number ∷ code_of slot.command ∷ hearing_number slot.hearing ∷ slot.waiting ∷ [])
+
+abbrev pub slot_lines : ℕ → List SlotRow → List ℕ
+slot_lines number [] = []
+slot_lines number (slot ∷ slots) = slot_line number slot ++ slot_lines (number + 1) slots
+
+-- The serial numbers.
+abbrev pub serial_line : List ℕ → List ℕ
+serial_line serial = line 4 serial
+
+abbrev pub serial_lines : List (List ℕ) → List ℕ
+serial_lines serials = flat_map serial_line serials
+
+abbrev pub last_line : Report → List ℕ
+last_line report =
+    line 6 (end_number report.end ∷ report.counts.lone ∷ report.counts.silent ∷ report.counts.clash ∷ report.counts.commands ∷ [])
+
+abbrev pub sheet : List SlotRow → List (List ℕ) → Report → List ℕ
+sheet slots serials report = slot_lines 1 slots ++ (serial_lines serials ++ last_line report)
+
+-- Writing a sheet into a buffer with some room.
+abbrev pub printing : List ℕ → ℕ → Making
+printing bytes room = cond (nat_lt room (length bytes)) (unmade 5) (made bytes)
