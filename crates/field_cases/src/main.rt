@@ -3,34 +3,29 @@
 // to that field, then `end`. The answers of another implementation are stored beside it, for comparison.
 #![tactic(auto)]
 
-use anyhow::bail;
 use field::field::Field;
-use plays::asking::{Asked, Sending};
-use plays::playing::{Answer, play_all};
+use plays::asking::Asked;
+use plays::playing::{Answer, answer_call, play_all};
 
+#[derive(Drop)]
 struct Sends;
 
 impl Answer for Sends {
+    fn begin() -> Sends {
+        Sends
+    }
+
     fn answer<R: Print + AllocGlobal, F: Field>(
-        &self,
+        &mut self,
         rt: &R,
         asked: &mut Asked<F>,
         verb: &str,
         rest: &str,
     ) -> anyhow::Result<()> {
-        // A match and no table of closures, since each verb has words of its own.
-        match verb {
-            "send" => {
-                let sending = Sending::read(rt.alloc(), rest)?;
-                println!(rt; "{}", asked.send(&sending))?;
-            }
-            "gap" => println!(rt; "gap {}", asked.pass(rest.parse::<u32>()?))?,
-            _ => bail!("no question to a field"),
-        }
-        Ok(())
+        answer_call(rt, asked, verb, rest)
     }
 }
 
 fn main(rt: HostRuntime) -> anyhow::Result<()> {
-    play_all(&rt, &Sends)
+    play_all::<HostRuntime, Sends>(&rt)
 }

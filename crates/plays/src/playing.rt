@@ -1,6 +1,6 @@
 // Plays, line by line: `tag STATE FLAG COUNTER MARK PERMISSION LOCKS MEMORY` and `find SERIAL` about a table, then `field
 // NESTING` over it, then questions to that field, then `end`.
-use crate::asking::Asked;
+use crate::asking::{Asked, Sending};
 use crate::building::{Build, Trouble, built};
 use crate::nesting::Below;
 use crate::reading::{read_tag, split_word};
@@ -12,15 +12,36 @@ use record::Tag;
 use spelling::hexadecimal::read_bytes;
 use std::io::{BufRead, BufReader};
 
-// What a program answers to the questions about a field.
-pub trait Answer {
+// What a program answers to the questions about a field. Each play begins with a new one.
+pub trait Answer: Drop {
+    fn begin() -> Self;
+
     fn answer<R: Print + AllocGlobal, F: Field>(
-        &self,
+        &mut self,
         rt: &R,
         asked: &mut Asked<F>,
         verb: &str,
         rest: &str,
     ) -> anyhow::Result<()>;
+}
+
+// The answer to a send or a gap.
+pub fn answer_call<R: Print + AllocGlobal, F: Field>(
+    rt: &R,
+    asked: &mut Asked<F>,
+    verb: &str,
+    rest: &str,
+) -> anyhow::Result<()> {
+    // A match and no table of closures, since each verb has words of its own.
+    match verb {
+        "send" => {
+            let sending = Sending::read(rt.alloc(), rest)?;
+            println!(rt; "{}", asked.send(&sending))?;
+        }
+        "gap" => println!(rt; "gap {}", asked.pass(rest.parse::<u32>()?))?,
+        _ => bail!("no question to a field"),
+    }
+    Ok(())
 }
 
 // What a play begins with: a table, which is filled tag by tag.
@@ -60,10 +81,10 @@ impl<R: Print + AllocGlobal> Stage<'_, R> {
 
 fn answer_all<R: Print + AllocGlobal, A: Answer, F: Field + Drop>(
     rt: &R,
-    answers: &A,
     field: F,
     questions: &[String],
 ) -> anyhow::Result<()> {
+    let mut answers = A::begin();
     let mut asked = Asked::new(field);
     for question in questions {
         let (verb, rest) = split_word(question.as_str())?;
@@ -76,7 +97,6 @@ fn answer_all<R: Print + AllocGlobal, A: Answer, F: Field + Drop>(
 // outermost layer is a parameter, since the toolchain proves this for any such field, and not at a nesting written out.
 fn perform<'a, R: Print + AllocGlobal, A: Answer, F: Build<'a> + Drop>(
     rt: &R,
-    answers: &A,
     table: &'a mut [Tag],
     nesting: &str,
     questions: &[String],
@@ -84,21 +104,17 @@ fn perform<'a, R: Print + AllocGlobal, A: Answer, F: Build<'a> + Drop>(
     match built::<F>(nesting, table) {
         Ok(field) => {
             println!(rt; "places {} {}", field.places(), of_tags(&field))?;
-            answer_all(rt, answers, field, questions)
+            answer_all::<R, A, F>(rt, field, questions)
         }
         Err(Trouble::Refused(refusal)) => {
             println!(rt; "refused {}", refusal.number())?;
-            answer_all(rt, answers, Bench::new(), questions)
+            answer_all::<R, A, Bench>(rt, Bench::new(), questions)
         }
         Err(Trouble::Words(error)) => Err(error),
     }
 }
 
-fn play<R: Print + AllocGlobal, A: Answer>(
-    rt: &R,
-    answers: &A,
-    lines: &[String],
-) -> anyhow::Result<()> {
+fn play<R: Print + AllocGlobal, A: Answer>(rt: &R, lines: &[String]) -> anyhow::Result<()> {
     let mut stage = Stage {
         rt,
         table: Vec::new(rt.alloc()),
@@ -106,13 +122,7 @@ fn play<R: Print + AllocGlobal, A: Answer>(
     let mut lines = lines;
     while let [line, questions @ ..] = lines {
         if let Some(nesting) = line.as_str().strip_prefix("field ") {
-            return perform::<R, A, Below>(
-                rt,
-                answers,
-                stage.table.as_mut_slice(),
-                nesting,
-                questions,
-            );
+            return perform::<R, A, Below>(rt, stage.table.as_mut_slice(), nesting, questions);
         }
         stage.prepare(line.as_str())?;
         lines = questions;
@@ -121,15 +131,12 @@ fn play<R: Print + AllocGlobal, A: Answer>(
 }
 
 // Plays what stands in the input, play after play.
-pub fn play_all<R: Input + Print + AllocGlobal, A: Answer>(
-    rt: &R,
-    answers: &A,
-) -> anyhow::Result<()> {
+pub fn play_all<R: Input + Print + AllocGlobal, A: Answer>(rt: &R) -> anyhow::Result<()> {
     let mut lines = Vec::new(rt.alloc());
     for line in BufReader::new(rt.alloc(), rt.reader())?.lines(rt.alloc()) {
         let line = line?;
         if line.as_str() == "end" {
-            play(rt, answers, lines.as_slice())?;
+            play::<R, A>(rt, lines.as_slice())?;
             println!(rt; "end")?;
             lines.clear();
         } else {

@@ -42,7 +42,7 @@ impl fmt::Display for Fingerprint {
 }
 
 impl Fingerprint {
-    fn new() -> Fingerprint
+    pub fn new() -> Fingerprint
         ensures { result ≡ blank }
     {
         Fingerprint {
@@ -51,7 +51,7 @@ impl Fingerprint {
     }
 
     #[tactic(auto, unfolding(crate::specs::Fingerprints::byte_taken))]
-    fn with(self, byte: u8) -> Fingerprint
+    pub fn with(self, byte: u8) -> Fingerprint
         ensures { result ≡ byte_taken self byte }
     {
         Fingerprint {
@@ -59,7 +59,7 @@ impl Fingerprint {
         }
     }
 
-    fn with_bytes(self, bytes: &[u8]) -> Fingerprint
+    pub fn with_bytes(self, bytes: &[u8]) -> Fingerprint
         ensures { result ≡ fold byte_taken self bytes.now }
     {
         bytes.iter().fold(self, |value, byte| value.with(*byte))

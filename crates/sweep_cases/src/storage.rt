@@ -1,0 +1,124 @@
+// What the lists of a play's sweeps are kept in, and the sweeps.
+use anyhow::Context;
+use field::field::Field;
+use field::hearing::Hearing;
+use plays::reading::read_row;
+use plays::showing::{Fingerprint, of_tags};
+use protocol::command::Command;
+use rows::list::Rows;
+use slot::ending::Report;
+use slot::lists::Lists;
+use slot::row::{Serial, SlotRow};
+use spelling::words::word;
+use std::alloc::Global;
+use std::str;
+use sweep::sweep;
+
+// How many rows there are, and what they hold at first.
+const SLOTS: usize = 400;
+
+const SERIALS: usize = 80;
+
+const UNUSED: SlotRow = SlotRow {
+    command: Command::Repeat,
+    hearing: Hearing::Clash,
+    waiting: 0xa5,
+};
+
+// How many bytes a sheet has room for.
+const PAGE: usize = 16384;
+
+#[derive(Drop)]
+pub(crate) struct Storage {
+    slots: [SlotRow; SLOTS],
+    serials: [Serial; SERIALS],
+}
+
+// How a field is to be swept, by the words BUDGET SLOTS SERIALS ROW...
+#[derive(Drop)]
+struct Order {
+    budget: u16,
+    slots: usize,
+    serials: usize,
+    coins: Vec<u64>,
+}
+
+impl Order {
+    fn read(heap: Global, text: &str) -> anyhow::Result<Order> {
+        let mut words = text.split_whitespace();
+        let mut order = Order {
+            budget: word(words.next())?.parse::<u16>()?,
+            slots: word(words.next())?.parse::<usize>()?,
+            serials: word(words.next())?.parse::<usize>()?,
+            coins: Vec::new(heap),
+        };
+        for row in words {
+            order.coins.push(read_row(row)?)?;
+        }
+        Ok(order)
+    }
+}
+
+impl Storage {
+    pub(crate) fn new() -> Storage {
+        Storage {
+            slots: [UNUSED; SLOTS],
+            serials: [[0xa5; 8]; SERIALS],
+        }
+    }
+
+    // Sweeps a field, and prints the sheet or the refusal, and what tags and storage then hold.
+    pub(crate) fn sweep<R: Print + AllocGlobal, F: Field>(
+        &mut self,
+        rt: &R,
+        field: &mut F,
+        text: &str,
+    ) -> anyhow::Result<()> {
+        let order = Order::read(rt.alloc(), text)?;
+        let slots = self.slots.get_mut(..order.slots);
+        let serials = self.serials.get_mut(..order.serials);
+        let mut lists = Lists {
+            slots: Rows::new(slots.context("too many slots")?),
+            serials: Rows::new(serials.context("too many serial numbers")?),
+        };
+        let swept = sweep(field, order.coins.as_slice(), order.budget, &mut lists);
+        match swept {
+            Ok(report) => {
+                show(rt, &lists, &report)?;
+                print!(rt; "swept")?;
+            }
+            Err(refusal) => print!(rt; "refused {}", refusal.number())?,
+        }
+        println!(rt; " {} {} {}", of_tags(field), self.of_slots(), self.of_serials())?;
+        Ok(())
+    }
+
+    // Of all rows, those behind the lists too.
+    fn of_slots(&self) -> Fingerprint {
+        self.slots.iter().fold(Fingerprint::new(), |value, row| {
+            value
+                .with(u8::from(row.command))
+                .with(row.hearing.number())
+                .with(row.waiting)
+        })
+    }
+
+    fn of_serials(&self) -> Fingerprint {
+        self.serials
+            .iter()
+            .fold(Fingerprint::new(), |value, serial| value.with_bytes(serial))
+    }
+}
+
+// Prints the sheet of a sweep.
+fn show<R: Print>(rt: &R, lists: &Lists<'_>, report: &Report) -> anyhow::Result<()> {
+    let mut page = [0; PAGE];
+    let length = sheet::write(
+        lists.slots.as_slice(),
+        lists.serials.as_slice(),
+        report,
+        &mut page,
+    )?;
+    print!(rt; "{}", str::from_utf8(&page[..length])?)?;
+    Ok(())
+}
