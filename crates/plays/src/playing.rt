@@ -104,11 +104,11 @@ fn perform<'a, R: Print + AllocGlobal, A: Answer, F: Build<'a> + Drop>(
     match built::<F>(nesting, table) {
         Ok(field) => {
             println!(rt; "places {} {}", field.places(), of_tags(&field))?;
-            answer_all::<R, A, F>(rt, field, questions)
+            answer_all::<R, A, _>(rt, field, questions)
         }
         Err(Trouble::Refused(refusal)) => {
             println!(rt; "refused {}", refusal.number())?;
-            answer_all::<R, A, Bench>(rt, Bench::new(), questions)
+            answer_all::<R, A, _>(rt, Bench::new(), questions)
         }
         Err(Trouble::Words(error)) => Err(error),
     }

@@ -89,7 +89,12 @@ impl Storage {
             }
             Err(refusal) => print!(rt; "refused {}", refusal.number())?,
         }
-        println!(rt; " {} {} {}", of_tags(field), self.of_slots(), self.of_serials())?;
+        println!(rt;
+            " {} {} {}",
+            of_tags(field),
+            self.of_slots(),
+            self.of_serials()
+        )?;
         Ok(())
     }
 
@@ -104,9 +109,7 @@ impl Storage {
     }
 
     fn of_serials(&self) -> Fingerprint {
-        self.serials
-            .iter()
-            .fold(Fingerprint::new(), |value, serial| value.with_bytes(serial))
+        self.serials.iter().fold(Fingerprint::new(), |value, serial| value.with_bytes(serial))
     }
 }
 
