@@ -108,8 +108,8 @@ told_none faithful tags lists =
     record {
       moments = [];
       history = tt;
-      tags = refl;
-      answered = refl;
+      told_tags = refl;
+      told_answer = refl;
       slots = Listed-none _ (λ o. o.slots) lists.slots;
       serials = Listed-none _ (λ o. o.serials) lists.serials;
     }
@@ -122,9 +122,9 @@ Told-append faithful ss ts tags between tags_at_end before mid after a b h k =
     record {
       moments = h.moments ++ k.moments;
       history = History-append faithful ss ts tags h.moments k.moments h.history
-          (subst (λ (l : List Tag). History faithful ts l k.moments) h.tags k.history);
-      tags = k.tags ∙ ap (λ (l : List Tag). tags_after l k.moments) h.tags ∙ sym (tags_after-append tags h.moments k.moments);
-      answered = ap₂ (λ (x y : Option (Result Report Refusal)). option_or x y) k.answered h.answered ∙ sym (last_answer-append h.moments k.moments);
+          (subst (λ (l : List Tag). History faithful ts l k.moments) h.told_tags k.history);
+      told_tags = k.told_tags ∙ ap (λ (l : List Tag). tags_after l k.moments) h.told_tags ∙ sym (tags_after-append tags h.moments k.moments);
+      told_answer = ap₂ (λ (x y : Option (Result Report Refusal)). option_or x y) k.told_answer h.told_answer ∙ sym (last_answer-append h.moments k.moments);
       slots = Listed-append _ (λ o. o.slots) h.moments k.moments before.slots mid.slots after.slots h.slots k.slots;
       serials = Listed-append _ (λ o. o.serials) h.moments k.moments before.serials mid.serials after.serials h.serials k.serials;
     }
@@ -140,8 +140,8 @@ told_one faithful step tags tags_at_end before after account met slots serials =
     record {
       moments = record { account = account; tags = tags_at_end } ∷ [];
       history = (met, tt);
-      tags = refl;
-      answered = refl;
+      told_tags = refl;
+      told_answer = refl;
       slots = slots;
       serials = serials;
     }

@@ -18,9 +18,8 @@ pub record Moment : Type 0 where
 -- The moments of a field that begins with some tags and meets some steps.
 unfoldable pub History : Bool → List Step → List Tag → List Moment → Type 0
 History faithful [] before [] = Unit {0}
-History faithful [] before (m ∷ ms) = ⊥
-History faithful (step ∷ steps) before [] = ⊥
 History faithful (step ∷ steps) before (m ∷ ms) = Met faithful step before m.tags m.account × History faithful steps m.tags ms
+History faithful steps before ms = ⊥
 
 -- The tags at the end.
 unfoldable pub tags_after : List Tag → List Moment → List Tag
@@ -69,10 +68,10 @@ pub record Listed {T : Type 0} (rows : Outcome → List T) (moments : List Momen
   pub lender : after.storage.ghost_name ≡ before.storage.ghost_name
 
 -- A field and its lists before and after some steps, and the answer of the last sweep: there is a history that tells all.
-pub record Told (faithful : Bool) (steps : List Step) (tags_before tags_at_end : List Tag) (before after : Lists) (answer : Option (Result Report Refusal)) : Type 0 where
+pub record Told (faithful : Bool) (steps : List Step) (tags tags_at_end : List Tag) (lists lists_at_end : Lists) (answer : Option (Result Report Refusal)) : Type 0 where
   pub moments : List Moment
-  pub history : History faithful steps tags_before moments
-  pub tags : tags_at_end ≡ tags_after tags_before moments
-  pub answered : answer ≡ last_answer moments
-  pub slots : Listed (λ o. o.slots) moments before.slots after.slots
-  pub serials : Listed (λ o. o.serials) moments before.serials after.serials
+  pub history : History faithful steps tags moments
+  pub told_tags : tags_at_end ≡ tags_after tags moments
+  pub told_answer : answer ≡ last_answer moments
+  pub slots : Listed (λ o. o.slots) moments lists.slots lists_at_end.slots
+  pub serials : Listed (λ o. o.serials) moments lists.serials lists_at_end.serials

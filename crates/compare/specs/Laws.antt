@@ -38,26 +38,23 @@ abbrev pub SameAccounts : List Tag → Account → Account → Type 0
 SameAccounts tags (reported o) (reported p) = SameSweeps tags o p
 SameAccounts tags account other = Unit {0}
 
--- After a call both fields have the same tags.
+-- After a call both fields have the same tags, place by place and in every part.
 pub record Agreed (tags : List Tag) (left right : Moment) : Type 0 where
   pub same : left.tags ≡ right.tags
   pub sweeps : SameAccounts tags left.account right.account
 
--- All moments of two histories are fair, each with the tags that it begins with.
+-- Every moment of two histories is fair, by the tags that it begins with.
 unfoldable pub Fair : List Tag → List Moment → List Tag → List Moment → Type 0
-Fair left [] right [] = Unit {0}
-Fair left [] right (n ∷ ns) = Unit {0}
-Fair left (m ∷ ms) right [] = Unit {0}
 Fair left (m ∷ ms) right (n ∷ ns) = IsFair left m.account right n.account × Fair m.tags ms n.tags ns
+Fair left ms right ns = Unit {0}
 
 -- After every call both fields agree.
 unfoldable pub AllAgreed : List Tag → List Moment → List Moment → Type 0
 AllAgreed tags [] [] = Unit {0}
-AllAgreed tags [] (n ∷ ns) = ⊥
-AllAgreed tags (m ∷ ms) [] = ⊥
 AllAgreed tags (m ∷ ms) (n ∷ ns) = Agreed tags m n × AllAgreed m.tags ms ns
+AllAgreed tags ms ns = ⊥
 
--- The law of two fields: of any two histories over one list of calls.
+-- The law of two fields with these tags, by any two histories over one list of calls.
 abbrev pub Law : List Tag → List Tag → List Call → Type 0
 Law left right calls =
     (faithful other : Bool) (lists others : Lists) (ms ns : List Moment) → History faithful (steps_on Left lists calls) left ms

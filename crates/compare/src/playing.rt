@@ -44,7 +44,7 @@ pub fn play<L: Field, R: Field>(
     }
 }
 
-// What holds of every play, for the proof of the above: it does nothing.
+// What holds of every play, for the proof of the above: it changes nothing.
 fn laws<F: Field>(field: &F)
     ensures { (other : List Tag) (calls : List Call) → Law (F.tags field.now) other calls }
 {
