@@ -1,0 +1,26 @@
+// Fields of the kinds that are played.
+use anyhow::Context;
+use bench::bench::Bench;
+use field::field::Field;
+use layers::pair::Pair;
+use layers::spoiler::Spoiler;
+use record::Tag;
+
+pub(crate) fn bench_over(table: &mut [Tag]) -> anyhow::Result<Bench<'_>> {
+    let mut bench = Bench::new();
+    bench.set_table(table).ok().context("too long a table")?;
+    Ok(bench)
+}
+
+// Two fields as one. This and the next are generic, since taking a field out of its result gets no proof today where a
+// bench is below.
+pub(crate) fn pair_of<L: Field + Drop, R: Field + Drop>(
+    left: L,
+    right: R,
+) -> anyhow::Result<Pair<L, R>> {
+    Pair::new(left, right).ok().context("too many places")
+}
+
+pub(crate) fn spoiler_of<F: Field + Drop>(field: F, period: u16) -> anyhow::Result<Spoiler<F>> {
+    Spoiler::new(field, period).ok().context("a period of 0")
+}
