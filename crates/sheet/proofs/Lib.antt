@@ -1,2 +1,2 @@
-pub mod Lines
 pub mod Prints
+pub mod Readings

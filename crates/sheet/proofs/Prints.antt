@@ -1,5 +1,5 @@
 -- Bytes printed one behind the other. Assumes nothing.
-use Rattle.std.proofs.Common.{◌≡◌, ℕ, ◌+◌, ◌<◌, ◌≤◌, true, false, cond, nat_lt, List, [], ◌++◌, length, refl, ap, ◌∙◌, subst, append_assoc, append-nil, sym, arith, Ok, Err, Result, ltb-true, ltb-false, le-ltb, lt-ltb}
+use Rattle.std.proofs.Common.{◌≡◌, ℕ, ◌+◌, ◌<◌, true, false, cond, nat_lt, List, [], ◌++◌, length, refl, ap, ◌∙◌, subst, append_assoc, append-nil, sym, arith, Ok, Err, Result, ltb-true, ltb-false, le-ltb, lt-ltb}
 use Rattle.std.proofs.lemmas.List.{length-append}
 use Rattle.protocol.specs.declared.refusal.Refusal.{Refusal}
 use Rattle.protocol.specs.declared.refusal.Refusal.TheVariants.{Buffer}
@@ -8,13 +8,6 @@ use Rattle.sheet.specs.Papers.{Printed}
 -- What is answered where there is some room for so many bytes.
 abbrev answer_by : ℕ → ℕ → Result (Unit {0}) Refusal
 answer_by room n = cond (nat_lt room n) (Err Buffer) (Ok tt)
-
-ok_fits : (room n : ℕ) → Ok tt ≡ answer_by room n → n ≤ room
-ok_fits room n e =
-    elim (nat_lt room n) as (λ b. nat_lt room n ≡ b → n ≤ room) [
-      | true ↦ λ t. let x : Ok tt ≡ Err Buffer = e ∙ ap (λ b. cond b (Err Buffer) (Ok tt)) t in cc
-      | false ↦ λ f. ltb-false room n f
-    ] refl
 
 err_full : (room n : ℕ) (r : Refusal) → Err r ≡ answer_by room n → room < n
 err_full room n r e =
@@ -34,8 +27,7 @@ answer_behind room left n k e =
       | false ↦ λ f. ap (λ b. cond b (Err Buffer) (Ok tt)) (f ∙ sym (le-ltb room (k + n) (omega (arith, ltb-false left n f))))
     ] refl
 
--- What is left to print, that more is then printed than that: from one paper to the next, once the rest is printed, so is
--- the whole.
+-- From one paper on, some bytes are printed so far that once the rest is printed, the whole is.
 pub record Leads {P : Type 0} (room : P → ℕ) (Shows : P → P → List ℕ → Type 0) (whole rest : List ℕ) (start now : P) : Type 0 where
   pub on : (later : P) (result : Result (Unit {0}) Refusal) → Printed room Shows rest now later result → Printed room Shows whole start later result
 
@@ -61,16 +53,13 @@ module _ {P : Type 0} (room : P → ℕ) (Shows : P → P → List ℕ → Type 
       }
 
   -- Nothing is always printed.
-  pub printed_none : (p : P) → Printed room Shows [] p p (Ok tt)
+  printed_none : (p : P) → Printed room Shows [] p p (Ok tt)
   printed_none p =
       record {
         answer = sym (ap (λ b. cond b (Err Buffer) (Ok tt)) (le-ltb (room p) 0 (omega arith)));
         left = λ ok. omega arith;
         shows = λ ok start text h. subst (Shows start p) (sym (append-nil text)) h;
       }
-
-  pub leads_from : (whole : List ℕ) (p : P) → Leads room Shows whole whole p p
-  leads_from whole p = record { on = λ q r h. h }
 
   -- Once the first part of the rest is printed, there is less.
   pub leads_more : (whole some a rest : List ℕ) (p q s : P) → some ≡ a ++ rest → Leads room Shows whole some p q
@@ -87,7 +76,3 @@ module _ {P : Type 0} (room : P → ℕ) (Shows : P → P → List ℕ → Type 
   -- Where nothing is left, all is printed.
   pub leads_end : (whole rest : List ℕ) (p q : P) → rest ≡ [] → Leads room Shows whole rest p q → Printed room Shows whole p q (Ok tt)
   leads_end whole rest p q e l = l.on q (Ok tt) (subst (λ bytes. Printed room Shows bytes q q (Ok tt)) (sym e) (printed_none q))
-
-  -- What is printed has room.
-  pub printed_fits : (bytes : List ℕ) (p q : P) → Printed room Shows bytes p q (Ok tt) → nat_lt (room p) (length bytes) ≡ false
-  printed_fits bytes p q x = le-ltb (room p) (length bytes) (ok_fits (room p) (length bytes) x.answer)

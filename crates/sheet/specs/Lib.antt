@@ -1,3 +1,4 @@
 pub mod Fronts
 pub mod Papers
+pub mod Readings
 pub mod Sheets

@@ -8,19 +8,19 @@ use Rattle.slot.specs.declared.row.SlotRow.{SlotRow}
 use Rattle.slot.specs.declared.ending.Report.{Report}
 use Rattle.slot.specs.Countings.{end_number}
 
-abbrev pub blank : ℕ
-blank = 32
+abbrev pub blanks : ℕ → List ℕ
+blanks count = replicate count 32
 
-abbrev pub line_feed : ℕ
-line_feed = 10
+-- A number, right-justified in a column, and whole where the column is too narrow.
+abbrev pub column : ℕ → ℕ → List ℕ
+column width number = blanks (width - length (decimal number)) ++ decimal number
 
--- A number in a column: blanks before it, and the number whole.
-unfoldable pub column : ℕ → ℕ → List ℕ
-column width number = replicate (width - length (decimal number)) blank ++ decimal number
+unfoldable pub columns : ℕ → List ℕ → List ℕ
+columns width numbers = flat_map (column width) numbers
 
--- A line of numbers.
-unfoldable pub line : ℕ → List ℕ → List ℕ
-line width numbers = flat_map (column width) numbers ++ line_feed ∷ []
+-- A line of numbers, with its line feed.
+abbrev pub line : ℕ → List ℕ → List ℕ
+line width numbers = columns width numbers ++ 10 ∷ []
 
 -- The slots, which are numbered.
 abbrev pub slot_line : ℕ → SlotRow → List ℕ

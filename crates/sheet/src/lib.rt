@@ -1,9 +1,10 @@
 // The printed sheet of a sweep.
 #![tactic(auto)]
 
-ghost use Rattle.std.specs.Prelude.{◌≡◌, length};
-ghost use Rattle.frame.specs.Makings.{answering, leaving};
-ghost use Rattle.protocol.specs.Refusals.{answer_of};
+ghost use Rattle.std.specs.Prelude.{◌≡◌, ◌≤◌, length};
+ghost use Rattle.frame.specs.Makings.{made, answering, leaving};
+ghost use Rattle.protocol.specs.Refusals.{told, answer_of};
+ghost use Rattle.sheet.specs.Readings.{LinesReadBack};
 ghost use Rattle.sheet.specs.Sheets.{sheet, printing};
 
 mod front;
@@ -19,6 +20,7 @@ use slot::ending::Report;
 use slot::row::{Serial, SlotRow};
 
 // Writes the sheet at the front of a buffer, and tells its length.
+#[tactic(auto, using(crate::proofs::Readings::lines_read_back))]
 pub fn write(
     slots: &[SlotRow],
     serials: &[Serial],
@@ -27,9 +29,24 @@ pub fn write(
 ) -> Result<usize, Refusal>
     ensures answer { answer_of result ≡ answering (printing (sheet slots.now serials.now report.now) (length buffer.old)) }
     ensures buffer { buffer.new ≡ leaving (printing (sheet slots.now serials.now report.now) (length buffer.old)) buffer.old }
+    ensures lines { LinesReadBack }
 {
-    // First where nothing is written, so that a refusal leaves the buffer as it was.
+    // A buffer that is too short is refused before anything is written into it.
     print(&mut Room::new(buffer.len()), slots, serials, report)?;
+    lay(slots, serials, report, buffer)
+}
+
+// Writes the sheet into a buffer that has room for it.
+fn lay(
+    slots: &[SlotRow],
+    serials: &[Serial],
+    report: &Report,
+    buffer: &mut [u8],
+) -> Result<usize, Refusal>
+    requires { length (sheet slots.now serials.now report.now) ≤ length buffer.old }
+    ensures answer { answer_of result ≡ told (length (sheet slots.now serials.now report.now)) }
+    ensures buffer { buffer.new ≡ leaving (made (sheet slots.now serials.now report.now)) buffer.old }
+{
     let mut front = Front::new(buffer);
     print(&mut front, slots, serials, report)?;
     Ok(front.filled())
