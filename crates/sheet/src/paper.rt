@@ -11,7 +11,7 @@ pub(crate) trait Paper {
     // For how many more bytes there is room.
     ghost room: { Self → ℕ };
 
-    // How the paper was, and is now that some text is printed on it.
+    // How it was, and is now that some text is printed on it.
     ghost Shows: { Self → Self → List ℕ → Type 0 };
 
     // Prints some bytes, or nothing where they do not all fit.
