@@ -1,0 +1,27 @@
+// Tests of whole sweeps, on values worked out by hand.
+#![tactic(auto)]
+
+#[cfg(test)]
+mod coins;
+#[cfg(test)]
+mod crowds;
+#[cfg(test)]
+mod deep;
+#[cfg(test)]
+mod earlier;
+#[cfg(test)]
+mod fates;
+#[cfg(test)]
+mod full;
+#[cfg(test)]
+mod orders;
+#[cfg(test)]
+mod setting;
+#[cfg(test)]
+mod spent;
+#[cfg(test)]
+mod spoilers;
+#[cfg(test)]
+mod twins;
+#[cfg(test)]
+mod worked;
