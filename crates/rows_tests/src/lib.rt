@@ -1,0 +1,5 @@
+// Tests of lists of rows in lent storage.
+#![tactic(auto)]
+
+#[cfg(test)]
+mod lists;
