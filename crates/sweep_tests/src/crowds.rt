@@ -1,5 +1,7 @@
 // As many tags as there may be.
 use crate::setting::*;
+use bench::bench::Bench;
+use layers::pair::Pair;
 use record::{State, Tag};
 use std::test::Fail;
 
@@ -27,14 +29,24 @@ fn on_a_bench(rt: HostRuntime) -> Result<(), Fail> {
     Ok(())
 }
 
-#[test]
-fn on_a_pair(rt: HostRuntime) -> Result<(), Fail> {
-    let mut table = crowd();
+// A pair of two benches of 32.
+fn halves(table: &mut [Tag; 64]) -> Result<Pair<Bench<'_>, Bench<'_>>, Fail> {
     let (left, right) = table
         .split_at_mut_checked(32)
         .ok_or("a split behind the end")?;
-    let mut field = pair_of(bench_over(left)?, bench_over(right)?)?;
-    finds_all(&rt, &mut field, COUNTS)
+    pair_of(bench_over(left)?, bench_over(right)?)
+}
+
+#[test]
+fn on_a_pair(rt: HostRuntime) -> Result<(), Fail> {
+    finds_all(&rt, &mut halves(&mut crowd())?, COUNTS)
+}
+
+#[test]
+fn on_a_spoiler_over_a_pair(rt: HostRuntime) -> Result<(), Fail> {
+    let mut table = crowd();
+    let mut field = spoiler_of(halves(&mut table)?, 4)?;
+    finds_all(&rt, &mut field, [64, 130, 193, 473])
 }
 
 // Spoiled replies cost slots where a tag is found, READs where it is read: 64 at least.

@@ -1,6 +1,7 @@
 // A sweep of two new tags, told apart by the first QUERY.
 use crate::setting::*;
 use bench::bench::Bench;
+use bench::single::Single;
 use field::field::Field;
 use field::hearing::Hearing::{Clash, Lone, Silence};
 use protocol::command::Command::{Query, Scroll, Select};
@@ -77,6 +78,19 @@ fn on_a_pair(rt: HostRuntime) -> Result<(), Fail> {
         serials: &[1, 2],
     };
     sweeps(&rt, &mut field, roomy(&COINS), wanted)
+}
+
+#[test]
+fn on_a_single(rt: HostRuntime) -> Result<(), Fail> {
+    let wanted = Wanted {
+        outcome: (0, [1, 0, 0, 3]),
+        slots: &[(Select, Lone, 0)],
+        serials: &[1],
+    };
+    let mut field = Single::new(new_tag(1));
+    sweeps(&rt, &mut field, roomy(&COINS), wanted)?;
+    assert!(rt; field.into_tag() == with_parts(1, DONE));
+    Ok(())
 }
 
 #[test]
