@@ -5,7 +5,8 @@ use layers::pair::Pair;
 use record::{State, Tag};
 use std::test::Fail;
 
-// The slots of 64 tags whose places are told apart digit by digit, and the commands.
+// The slots of 64 tags whose places are told apart digit by digit, and the commands. These counts and those of the spoilers
+// are from a simulation that was written from the rules alone.
 const COUNTS: [u16; 4] = [64, 129, 192, 450];
 
 // What a tag comes to that is found.

@@ -1,4 +1,4 @@
-// Tests of whole sweeps, on values worked out by hand.
+// Tests of whole sweeps, on values worked out by hand; those of 64 tags are told by a simulation.
 #![tactic(auto)]
 
 #[cfg(test)]
