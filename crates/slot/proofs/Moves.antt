@@ -74,7 +74,7 @@ module _ (set : Setting) where
     reaches_stop p n e = reaches_by p (stops n) Silence e refl (λ f. refl)
 
 -- Whatever is heard, the slot's command is counted.
-counted_commands : (h : Hearing) (c : Counts) → (counted h c).commands ≡ c.commands + 1
+pub counted_commands : (h : Hearing) (c : Counts) → (counted h c).commands ≡ c.commands + 1
 counted_commands Silence c = refl
 counted_commands Lone c = refl
 counted_commands Clash c = refl

@@ -30,6 +30,7 @@ pub(crate) fn ask<F: Field>(field: &mut F, command: Command, parameters: &[u8], 
     ensures hearing { MayHear (on_air (opening (frame_of command parameters.now)) row (F.tags field.old)) result.hearing }
     ensures faithful { F.faithful ≡ true → result.hearing ≡ plainly (on_air (opening (frame_of command parameters.now)) row (F.tags field.old)) }
     ensures serial { result.serial ≡ serial_in result.hearing (on_air (opening (frame_of command parameters.now)) row (F.tags field.old)) }
+    ensures kind { F.hears field.old (opening (frame_of command parameters.now)) row result.hearing field.new }
 {
     let mut frame = [0; LONGEST];
     let length = put_frame(command, parameters, &mut frame);
@@ -55,6 +56,7 @@ fn transmit<F: Field>(field: &mut F, bytes: &[u8], row: u64) -> Answer
     ensures hearing { MayHear (on_air (opening bytes.now) row (F.tags field.old)) result.hearing }
     ensures faithful { F.faithful ≡ true → result.hearing ≡ plainly (on_air (opening bytes.now) row (F.tags field.old)) }
     ensures serial { result.serial ≡ serial_in result.hearing (on_air (opening bytes.now) row (F.tags field.old)) }
+    ensures kind { F.hears field.old (opening bytes.now) row result.hearing field.new }
 {
     let mut reply = [0; ROOM];
     let mut serial = [0; SERIAL];

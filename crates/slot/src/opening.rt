@@ -65,6 +65,7 @@ pub(crate) fn open_slot<F: Field>(
     requires { length parameters.now + 3 ≡ length_of command }
     ensures done { is_ok result ≡ not (nat_le stand.budget stand.counts.commands || is_full lists.old.slots) }
     ensures opened { IfOk result (λ s. Opened F.faithful command (opening (frame_of command parameters.now)) row stand lists.old lists.new (F.tags field.old) (F.tags field.new) s) }
+    ensures kind { IfOk result (λ s. F.hears field.old (opening (frame_of command parameters.now)) row (heard_in s) field.new) }
     ensures stopped { IfErr result (λ s. (stop_number s.stop ≡ (if nat_le stand.budget stand.counts.commands then 8 else 9)) × (s.counts ≡ stand.counts)) }
     ensures same { OnErr result ((field.new ≡ field.old) × (lists.new ≡ lists.old)) }
 {

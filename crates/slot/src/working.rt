@@ -3,6 +3,7 @@ ghost use Rattle.std.specs.Prelude.{◌≡◌, ℕ, ◌+◌, List, [], ◌<◌, 
 ghost use Rattle.rows.specs.Filling.{rows_of, is_full, and_row};
 ghost use Rattle.slot.specs.Going.{GoesOn, setting, where_opened, where_split, where_read, where_left, where_closed, StandsAt, Shows, BothBehind, IsWithin, counts_in, counts_opened, counts_split, counts_left, counts_closed, counts_read, rows_opened, rows_split, rows_left, no_counts, handed_back, is_recorded, refused_by};
 ghost use Rattle.slot.specs.Rules.{beginning, in_silence, in_lone, in_clash, in_reading};
+ghost use Rattle.slot.specs.Sendings.{Sent};
 
 use crate::asking::ask;
 use crate::counts::Counts;
@@ -29,6 +30,7 @@ pub fn open<F: Field>(field: &mut F, budget: u16, lists: &mut Lists<'_>) -> Resu
     ensures rule { (coins : List ℕ) → GoesOn F.faithful (setting coins budget lists.old) (λ p. p ≡ beginning (F.tags field.old)) (Shows (where_opened result) lists.new (F.tags field.new)) }
     ensures behind { BothBehind lists.old lists.new }
     ensures counts { counts_in (where_opened result) ≡ counts_opened no_counts result }
+    ensures sends { Sent F.hears 0 (counts_in (where_opened result)).commands field.old field.new }
     ensures within { OnOk result (IsWithin budget (where_opened result)) }
     ensures slots { rows_of lists.new.slots ≡ rows_opened Command.Select [] result }
     ensures serials { rows_of lists.new.serials ≡ [] }
@@ -56,6 +58,7 @@ impl ClashSlot {
         ensures rule { GoesOn F.faithful (setting coins.now self.stand.budget lists.old) (StandsAt in_clash self.stand lists.old (F.tags field.old)) (Shows (where_split result) lists.new (F.tags field.new)) }
         ensures behind { BothBehind lists.old lists.new }
         ensures counts { counts_in (where_split result) ≡ counts_split self.stand.counts result }
+        ensures sends { Sent F.hears self.stand.counts.commands (counts_in (where_split result)).commands field.old field.new }
         ensures within { OnOk result (IsWithin self.stand.budget (where_split result)) }
         ensures slots { rows_of lists.new.slots ≡ rows_split (rows_of lists.old.slots) result }
         ensures serials { lists.new.serials ≡ lists.old.serials }
@@ -78,6 +81,7 @@ impl SilentSlot {
         ensures rule { (coins : List ℕ) → GoesOn F.faithful (setting coins self.stand.budget lists.old) (StandsAt in_silence self.stand lists.old (F.tags field.old)) (Shows (where_left result) lists.new (F.tags field.new)) }
         ensures behind { BothBehind lists.old lists.new }
         ensures counts { counts_in (where_left result) ≡ counts_left self.stand.counts result }
+        ensures sends { Sent F.hears self.stand.counts.commands (counts_in (where_left result)).commands field.old field.new }
         ensures within { OnOk result (IsWithin self.stand.budget (where_left result)) }
         ensures slots { rows_of lists.new.slots ≡ rows_left (rows_of lists.old.slots) result }
         ensures serials { lists.new.serials ≡ lists.old.serials }
@@ -96,6 +100,7 @@ impl LoneSlot {
         ensures rule { (coins : List ℕ) → GoesOn F.faithful (setting coins self.stand.budget lists.old) (StandsAt (in_lone self.serial) self.stand lists.old (F.tags field.old)) (Shows (where_read result) lists.new (F.tags field.new)) }
         ensures behind { BothBehind lists.old lists.new }
         ensures counts { counts_in (where_read result) ≡ counts_read self.stand.counts (counts_in (where_read result)).commands }
+        ensures sends { Sent F.hears self.stand.counts.commands (counts_in (where_read result)).commands field.old field.new }
         ensures within { OnOk result (IsWithin self.stand.budget (where_read result)) }
         ensures sent { IfOk result (λ s. self.stand.counts.commands < s.stand.counts.commands) }
         ensures slots { lists.new.slots ≡ lists.old.slots }
@@ -132,6 +137,7 @@ impl Stand {
         ensures rule { GoesOn F.faithful (setting coins.now self.budget lists.old) (StandsAt in_clash self lists.old (F.tags field.old)) (Shows (where_opened result) lists.new (F.tags field.new)) }
         ensures behind { BothBehind lists.old lists.new }
         ensures counts { counts_in (where_opened result) ≡ counts_opened self.counts result }
+        ensures sends { Sent F.hears self.counts.commands (counts_in (where_opened result)).commands field.old field.new }
         ensures within { OnOk result (IsWithin self.budget (where_opened result)) }
         ensures slots { rows_of lists.new.slots ≡ rows_opened Command.Query (rows_of lists.old.slots) result }
         ensures serials { lists.new.serials ≡ lists.old.serials }
@@ -154,6 +160,7 @@ impl Stand {
         ensures rule { (coins : List ℕ) → GoesOn F.faithful (setting coins self.budget lists.old) (StandsAt in_silence self lists.old (F.tags field.old)) (Shows (where_opened result) lists.new (F.tags field.new)) }
         ensures behind { BothBehind lists.old lists.new }
         ensures counts { counts_in (where_opened result) ≡ counts_opened self.counts result }
+        ensures sends { Sent F.hears self.counts.commands (counts_in (where_opened result)).commands field.old field.new }
         ensures within { OnOk result (IsWithin self.budget (where_opened result)) }
         ensures slots { rows_of lists.new.slots ≡ rows_opened Command.Scroll (rows_of lists.old.slots) result }
         ensures serials { lists.new.serials ≡ lists.old.serials }
@@ -170,6 +177,7 @@ impl Stand {
         requires { length serial.now ≡ 8 }
         ensures rule { (coins : List ℕ) (lists : Lists) → GoesOn F.faithful (setting coins self.budget lists) (StandsAt (in_reading serial.now) self lists (F.tags field.old)) (Shows (where_read result) lists (F.tags field.new)) }
         ensures counts { counts_in (where_read result) ≡ counts_read self.counts (counts_in (where_read result)).commands }
+        ensures sends { Sent F.hears self.counts.commands (counts_in (where_read result)).commands field.old field.new }
         ensures within { OnOk result (IsWithin self.budget (where_read result)) }
         ensures sent { IfOk result (λ s. self.counts.commands < s.stand.counts.commands) }
     {
@@ -191,6 +199,7 @@ impl Stand {
         requires { self.waiting ≡ 0 }
         ensures rule { (coins : List ℕ) (lists : Lists) → GoesOn F.faithful (setting coins self.budget lists) (StandsAt in_silence self lists (F.tags field.old)) (Shows (where_closed result) lists (F.tags field.new)) }
         ensures counts { counts_in (where_closed result) ≡ counts_closed self.counts result }
+        ensures sends { Sent F.hears self.counts.commands (counts_in (where_closed result)).commands field.old field.new }
     {
         if self.is_spent() {
             return Err(self.stopped(Stop::Spent));

@@ -8,6 +8,7 @@ use Rattle.slot.specs.Countings.{stop_number}
 use Rattle.slot.specs.Going.{setting, Reaches, StandsAt}
 use Rattle.slot.specs.Rules.{Setting, Play, in_lone, in_reading, next_deed, deed_in, done, stops, lists}
 use Rattle.slot.proofs.Moves.{reaches_by, reaches_more, stopped}
+use Rattle.slot.proofs.Sendings.{none_sent}
 use Rattle.slot.proofs.kinds.LoneSlot.read.Goals as goal
 
 -- The next deed at a lone slot, by whether the list is full.
@@ -50,3 +51,7 @@ returns-clause-rule g c coins p s =
     (lone_deed set p c.args.self.serial false s.phase (ap (λ (rows : List (List ℕ)). nat_le set.serial_room (length rows)) s.serials ∙ free)) refl (λ f. refl) in
     let rest = c.read.ensures.rule coins after q stands in
     (rest.0, reaches_more set g.F.Field.faithful p q rest.0 first (subst (λ (x : Setting). Reaches g.F.Field.faithful x q rest.0) same rest.1), rest.2)
+
+pub returns-then-is_err-clause-sends : goal.returns-then-is_err-clause-sends
+returns-then-is_err-clause-sends g c =
+    none_sent g.F.Field.hears _ _ _ _ (ap (λ (x : Stopped). x.counts.commands) c.stopped.ensures) refl

@@ -11,6 +11,7 @@ use Rattle.slot.specs.Countings.{stop_number}
 use Rattle.slot.specs.Going.{setting}
 use Rattle.slot.specs.Rules.{Setting, closes, done}
 use Rattle.slot.proofs.Moves.{stopped, silent_deed, budget_deed, reaches_by}
+use Rattle.slot.proofs.Sendings.{none_sent, one_sent}
 use Rattle.slot.proofs.kinds.Stand.close.Goals as goal
 
 pub returns-then-is_spent-clause-rule : goal.returns-then-is_spent-clause-rule
@@ -39,3 +40,12 @@ returns-clause-rule g c coins lists p s =
         tags = ap (stepped_all again 0) s.tags ∙ sym c.ask.ensures.tags;
       },
     )
+
+pub returns-then-is_spent-clause-sends : goal.returns-then-is_spent-clause-sends
+returns-then-is_spent-clause-sends g c =
+    none_sent g.F.Field.hears _ _ _ _ (ap (λ (x : Stopped). x.counts.commands) c.stopped.ensures) refl
+
+pub returns-clause-sends : goal.returns-clause-sends
+returns-clause-sends g c =
+    one_sent g.F.Field.hears _ _ _ _ (ap (λ (x : Counts). x.commands) c.with_command.ensures)
+    (record { frame = _; row = _; heard = _; kind = c.ask.ensures.kind })

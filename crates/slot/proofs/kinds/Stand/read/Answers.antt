@@ -15,8 +15,10 @@ use Rattle.field.specs.declared.hearing.Hearing.{Hearing}
 use Rattle.field.specs.declared.hearing.Hearing.TheVariants.{Silence, Lone, Clash}
 use Rattle.slot.specs.Commands.{frame_of, read}
 use Rattle.slot.specs.Going.{setting, Reaches, StandsAt, counts_read}
+use Rattle.slot.specs.Sendings.{Sent}
 use Rattle.slot.specs.Rules.{Setting, Play, Phase, in_reading, read_by, reads, deed_in}
 use Rattle.slot.proofs.Moves.{reaches_self, reaches_more, read_once, with_one, stopped, budget_deed}
+use Rattle.slot.proofs.Sendings.{none_sent, one_more_sent}
 use Rattle.slot.proofs.kinds.Stand.read.Goals as goal
 
 -- What is heard otherwise than as lone is sent again.
@@ -33,6 +35,7 @@ loop-sent-init g c =
       next = refl;
       counts = refl;
       commands = refl;
+      sends = none_sent g.F.Field.hears _ _ _ _ refl refl;
       rule = λ coins lists p s. (p, reaches_self (setting coins c.args.self.budget lists) g.F.Field.faithful p, s);
     }
 
@@ -104,6 +107,8 @@ loop-sent-preserved g c =
       next = c.loop-sent.invariant.next;
       counts = ap (λ (k : Counts). counts_read k (c.loop-sent.sent + 1)) c.loop-sent.invariant.counts;
       commands = refl;
+      sends = one_more_sent g.F.Field.hears _ _ _ _ _ _ c.loop-sent.invariant.sends (ap (λ (n : ℕ). n + 1) (sym c.loop-sent.invariant.commands))
+          (record { frame = _; row = _; heard = _; kind = c.ask-answer.ensures.kind });
       rule = λ coins lists p s.
           let set : Setting = setting coins c.args.self.budget lists in
           let stand : Stand = c.loop-sent.stand in
@@ -128,3 +133,13 @@ returns-clause-rule g c coins lists p s =
     (ap (λ (x : Stopped). stop_number x.stop) c.stopped.ensures) (was.2.commands ∙ ap (λ (x : Stopped). x.counts.commands) (sym c.stopped.ensures)) was.2.slots
     was.2.serials was.2.tags in
     (over.0, reaches_more set g.F.Field.faithful p was.0 over.0 was.1 over.1, over.2)
+
+pub returns-then-eq-clause-sends : goal.returns-then-eq-clause-sends
+returns-then-eq-clause-sends g c =
+    one_more_sent g.F.Field.hears _ _ _ _ _ _ c.loop-sent.invariant.sends (ap (λ (n : ℕ). n + 1) (sym c.loop-sent.invariant.commands))
+    (record { frame = _; row = _; heard = _; kind = c.ask-answer.ensures.kind })
+
+pub returns-clause-sends : goal.returns-clause-sends
+returns-clause-sends g c =
+    subst (λ (x : Stopped). Sent g.F.Field.hears c.args.self.counts.commands x.counts.commands c.args.field.now c.loop-sent.field) (sym c.stopped.ensures)
+    c.loop-sent.invariant.sends

@@ -5,6 +5,7 @@ use Rattle.slot.specs.Commands.{scroll}
 use Rattle.slot.specs.Going.{setting}
 use Rattle.slot.specs.Rules.{Setting, opening_slot, opens}
 use Rattle.slot.proofs.Moves.{slot_opened, silent_deed, still}
+use Rattle.slot.proofs.Sendings.{opening_sent}
 use Rattle.slot.proofs.kinds.Stand.scroll.Goals as goal
 
 pub returns-clause-rule : goal.returns-clause-rule
@@ -17,3 +18,8 @@ returns-clause-rule g c coins p s =
     ∙ ap₂ (λ (w n : ℕ). opening_slot set p (opens Scroll scroll 0 (w - 1) n)) s.waiting s.next)
     c.open_slot.result c.open_slot.ensures.done c.open_slot.ensures.opened c.open_slot.ensures.stopped
     (still g.F.Field.tags c.args.field.now c.open_slot.new.field c.args.lists.now c.open_slot.new.lists c.open_slot.result c.open_slot.ensures.same)
+
+pub returns-clause-sends : goal.returns-clause-sends
+returns-clause-sends g c =
+    opening_sent g.F.Field.hears g.F.Field.faithful _ _ _ _ _ _ _ _ c.args.field.now c.open_slot.new.field _ c.open_slot.result c.open_slot.ensures.opened
+    c.open_slot.ensures.stopped c.open_slot.ensures.kind c.open_slot.ensures.same

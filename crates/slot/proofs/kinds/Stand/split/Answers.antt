@@ -7,6 +7,7 @@ use Rattle.slot.specs.declared.ending.Stopped.{Stopped}
 use Rattle.slot.specs.Countings.{stop_number}
 use Rattle.slot.specs.Rules.{Setting, Play, in_clash, deed_in, next_deed, opening_slot, opens, stops, coins_at, place_behind}
 use Rattle.slot.proofs.Moves.{slot_opened, stopped, still}
+use Rattle.slot.proofs.Sendings.{none_sent, opening_sent}
 use Rattle.slot.proofs.kinds.Stand.split.Goals as goal
 
 -- What comes after a clash, by how many groups wait.
@@ -33,3 +34,12 @@ returns-clause-rule g c p s =
     ∙ ap₂ (λ (w n : ℕ). opening_slot set p (opens Query query (coins_at set.coins n) (w + 1) (place_behind set.coins n))) s.waiting s.next)
     c.open_slot.result c.open_slot.ensures.done c.open_slot.ensures.opened c.open_slot.ensures.stopped
     (still g.F.Field.tags c.args.field.now c.open_slot.new.field c.args.lists.now c.open_slot.new.lists c.open_slot.result c.open_slot.ensures.same)
+
+pub returns-then-self-eq255-clause-sends : goal.returns-then-self-eq255-clause-sends
+returns-then-self-eq255-clause-sends g c =
+    none_sent g.F.Field.hears _ _ _ _ (ap (λ (x : Stopped). x.counts.commands) c.stopped.ensures) refl
+
+pub returns-clause-sends : goal.returns-clause-sends
+returns-clause-sends g c =
+    opening_sent g.F.Field.hears g.F.Field.faithful _ _ _ _ _ _ _ _ c.args.field.now c.open_slot.new.field _ c.open_slot.result c.open_slot.ensures.opened
+    c.open_slot.ensures.stopped c.open_slot.ensures.kind c.open_slot.ensures.same
