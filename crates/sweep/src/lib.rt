@@ -4,6 +4,7 @@
 ghost use Rattle.std.specs.Prelude.{◌≡◌, IfOk, OnErr, if◌then◌else◌, Some, None};
 ghost use Rattle.rows.specs.Filling.{rows_of};
 ghost use Rattle.slot.specs.Going.{setting, BothBehind, is_recorded};
+ghost use Rattle.slot.specs.Sendings.{Sent};
 ghost use Rattle.sweep.specs.Cases.{EmptySweeps};
 ghost use Rattle.sweep.specs.Whole.{Outcome, Swept, Lawful, refused_by};
 
@@ -32,6 +33,7 @@ pub fn sweep<F: Field>(
     ensures rule { IfOk result (λ r. Swept F.faithful (setting coins.now budget lists.old) (F.tags field.old) (record { report = r; slots = rows_of lists.new.slots; serials = rows_of lists.new.serials; tags = F.tags field.new })) }
     ensures laws { IfOk result (λ r. Lawful F.faithful (setting coins.now budget lists.old) (F.tags field.old) (record { report = r; slots = rows_of lists.new.slots; serials = rows_of lists.new.serials; tags = F.tags field.new })) }
     ensures behind { BothBehind lists.old lists.new }
+    ensures sends { IfOk result (λ r. Sent F.hears 0 r.counts.commands field.old field.new) }
     ensures empty { EmptySweeps }
 {
     if coins.is_empty() || coins.len() > MOST_ROWS {

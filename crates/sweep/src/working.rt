@@ -3,6 +3,7 @@ ghost use Rattle.std.specs.Prelude.{◌≡◌, ◌≤◌, true, false, length, O
 ghost use Rattle.rows.specs.Filling.{rows_of};
 ghost use Rattle.slot.specs.Going.{GoesOn, setting, StandsAt, Shows, BothBehind, IsWithin, counts_in, is_recorded};
 ghost use Rattle.slot.specs.Rules.{beginning};
+ghost use Rattle.slot.specs.Sendings.{Sent};
 ghost use Rattle.slot.specs.Slots.{phase_of, stand_of};
 ghost use Rattle.sweep.specs.Steps.{where_gone, where_worked, is_refused, Tallied, HasSent};
 
@@ -22,6 +23,7 @@ pub(crate) fn work<F: Field>(
     requires { is_recorded coins.now ≡ true }
     ensures rule { GoesOn F.faithful (setting coins.now budget lists.old) (λ p. p ≡ beginning (F.tags field.old)) (Shows (where_worked result) lists.new (F.tags field.new)) }
     ensures behind { BothBehind lists.old lists.new }
+    ensures sends { Sent F.hears 0 (counts_in (where_worked result)).commands field.old field.new }
     ensures tally { Tallied (counts_in (where_worked result)) (rows_of lists.new.slots) }
     ensures stopped { is_refused result ≡ false }
 {
@@ -45,6 +47,7 @@ fn go_on<F: Field>(
     ensures rule { GoesOn F.faithful (setting coins.now (stand_of slot).budget lists.old) (StandsAt (phase_of slot) (stand_of slot) lists.old (F.tags field.old)) (Shows (where_gone result) lists.new (F.tags field.new)) }
     ensures behind { BothBehind lists.old lists.new }
     ensures within { OnOk result (IsWithin (stand_of slot).budget (where_gone result)) }
+    ensures sends { Sent F.hears (stand_of slot).counts.commands (counts_in (where_gone result)).commands field.old field.new }
     ensures sent { OnOk result (HasSent (stand_of slot).counts.commands (where_gone result)) }
     ensures tally { Tallied (stand_of slot).counts (rows_of lists.old.slots) → length (rows_of lists.new.slots) ≤ 65535 → Tallied (counts_in (where_gone result)) (rows_of lists.new.slots) }
     ensures stopped { is_refused result ≡ false }

@@ -10,6 +10,8 @@ use Rattle.slot.specs.declared.kinds.Slot.{Slot}
 use Rattle.slot.specs.declared.counts.Counts.{Counts}
 use Rattle.slot.specs.declared.lists.Lists.{Lists}
 use Rattle.record.specs.declared.Tag.{Tag}
+use Rattle.frame.specs.Openings.{Opening}
+use Rattle.slot.specs.Sendings.{Sent}
 use Rattle.slot.specs.Slots.{phase_of, stand_of, heard_in}
 use Rattle.slot.specs.declared.kinds.Unsplit.{Unsplit}
 use Rattle.slot.specs.declared.kinds.Unsplit.TheVariants as unsplit
@@ -17,6 +19,7 @@ use Rattle.slot.specs.Countings.{stop_number, counted}
 use Rattle.slot.specs.Going.{Where, over, where_left, where_split, setting, GoesOn, StandsAt, Shows, counts_in, counts_left}
 use Rattle.sweep.specs.Steps.{where_gone, HasSent}
 use Rattle.slot.proofs.Moves.{Led, led_on, setting_same}
+use Rattle.slot.proofs.Sendings.{joined_sent}
 use Rattle.sweep.proofs.working.go_on.Goals as goal
 
 -- What a call has to show, by the slot that it is given.
@@ -113,3 +116,21 @@ pub returns-in_ok-split-in-Clash-clause-rule : goal.returns-in_ok-split-in-Clash
 returns-in_ok-split-in-Clash-clause-rule g c =
     subst (From g.F.Field.faithful c.args.coins.now c.args.lists.now (g.F.Field.tags c.args.field.now) (where_gone (Ok (left.Next c.in_ok-split-in-Clash.field-0))) c.split.new.lists (g.F.Field.tags c.split.new.field)) (sym c.in-Clash.is)
     (λ p s. c.in_ok-split-in-Clash.ensures.rule p s)
+
+-- What reading and then leaving a lone slot send.
+abbrev BothSent : {F : Type 0} → (F → Opening → ℕ → Hearing → F → Type 0) → F → F → Where → Slot → Type 0
+BothSent hears before after w slot = Sent hears (stand_of slot).counts.commands (counts_in w).commands before after
+
+pub returns-in_err-leave-in-Lone-clause-sends : goal.returns-in_err-leave-in-Lone-clause-sends
+returns-in_err-leave-in-Lone-clause-sends g c =
+    subst (BothSent g.F.Field.hears c.args.field.now c.leave-in-Lone.new.field (where_gone c.from_residual-in_err-leave-in-Lone.result)) (sym c.in-Lone.is)
+    (subst (λ (w : Where). Sent g.F.Field.hears c.in-Lone.lone.stand.counts.commands (counts_in w).commands c.args.field.now c.leave-in-Lone.new.field)
+    (stop_handed c.from_residual-in_err-leave-in-Lone.result c.in_err-leave-in-Lone.field-0.0 c.from_residual-in_err-leave-in-Lone.ensures.0 c.from_residual-in_err-leave-in-Lone.ensures.1)
+    (joined_sent g.F.Field.hears _ c.in_ok-read-in-Lone.field-0.stand.counts.commands _ _ _ _ c.in_ok-read-in-Lone.ensures.sends c.in_err-leave-in-Lone.ensures.sends))
+
+pub returns-in_ok-leave-in-Lone-clause-sends : goal.returns-in_ok-leave-in-Lone-clause-sends
+returns-in_ok-leave-in-Lone-clause-sends g c =
+    subst (BothSent g.F.Field.hears c.args.field.now c.leave-in-Lone.new.field (where_gone (Ok c.in_ok-leave-in-Lone.field-0))) (sym c.in-Lone.is)
+    (subst (λ (w : Where). Sent g.F.Field.hears c.in-Lone.lone.stand.counts.commands (counts_in w).commands c.args.field.now c.leave-in-Lone.new.field)
+    (left_where c.in_ok-leave-in-Lone.field-0)
+    (joined_sent g.F.Field.hears _ c.in_ok-read-in-Lone.field-0.stand.counts.commands _ _ _ _ c.in_ok-read-in-Lone.ensures.sends c.in_ok-leave-in-Lone.ensures.sends))
