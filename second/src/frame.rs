@@ -7,6 +7,9 @@ pub const CHECK_LENGTH: usize = 2;
 /// A code byte and a check value; nothing shorter can be a frame.
 pub const SHORTEST: usize = 1 + CHECK_LENGTH;
 
+/// No command's frame is longer.
+pub const LONGEST: usize = 17;
+
 pub struct Parameter {
     name: &'static str,
     length: usize,
@@ -188,10 +191,18 @@ pub fn make(code: u8, parameters: &[u8], buffer: &mut [u8]) -> Result<usize, Ref
     if parameters.len() != command.parameters_length() {
         return Err(Refusal::WrongLength);
     }
-    let frame = sealed_with(code, parameters);
-    let front = buffer.get_mut(..frame.len()).ok_or(Refusal::NoRoom)?;
-    front.copy_from_slice(&frame);
-    Ok(frame.len())
+    let front = buffer
+        .get_mut(..command.frame_length())
+        .ok_or(Refusal::NoRoom)?;
+    Ok(put(code, parameters, front))
+}
+
+/// The same where all is right.
+pub fn put(code: u8, parameters: &[u8], buffer: &mut [u8]) -> usize {
+    let body = 1 + parameters.len();
+    buffer[0] = code;
+    buffer[1..body].copy_from_slice(parameters);
+    seal(buffer, body)
 }
 
 #[cfg(test)]

@@ -22,6 +22,7 @@ mod sweep;
 mod sweep_asker;
 mod sweep_cases;
 mod sweep_question;
+mod sweep_speed;
 mod tag;
 mod tag_asker;
 mod tag_cases;
@@ -40,7 +41,8 @@ const USAGE: &str = "usage: second frames SEED INPUT_FILE OUTPUT_FILE
        second fields SEED INPUT_FILE OUTPUT_FILE
        second sweeps SEED INPUT_FILE OUTPUT_FILE
        second speed query SENDS
-       second speed read SENDS";
+       second speed read SENDS
+       second speed sweeps SWEEPS";
 
 /// What the questions are about.
 #[derive(Clone, Copy)]
@@ -59,17 +61,33 @@ struct Job {
     output: PathBuf,
 }
 
-/// How fast fields are, by sends of one kind.
+/// How fast fields and sweeps are.
 #[derive(Debug, PartialEq)]
-struct Race {
-    load: Load,
-    sends: u64,
+enum Race {
+    /// By sends of one kind.
+    Sends {
+        load: Load,
+        sends: u64,
+    },
+    Sweeps {
+        sweeps: u64,
+    },
+}
+
+impl Race {
+    /// The line that is printed.
+    fn run(&self) -> String {
+        match *self {
+            Race::Sends { load, sends } => speed::run(load, sends).to_string(),
+            Race::Sweeps { sweeps } => sweep_speed::run(sweeps).to_string(),
+        }
+    }
 }
 
 fn main() -> ExitCode {
     let words: Vec<OsString> = env::args_os().skip(1).collect();
     if let Some(race) = understand_race(&words) {
-        println!("{}", speed::run(race.load, race.sends));
+        println!("{}", race.run());
         return ExitCode::SUCCESS;
     }
     let Some(job) = understand(&words) else {
@@ -86,16 +104,17 @@ fn main() -> ExitCode {
 }
 
 fn understand_race(words: &[OsString]) -> Option<Race> {
-    let [verb, load, sends] = words else {
+    let [verb, kind, times] = words else {
         return None;
     };
-    let load = match (verb.to_str()?, load.to_str()?) {
-        ("speed", "query") => Load::Query,
-        ("speed", "read") => Load::Read,
-        _ => return None,
-    };
-    let sends = sends.to_str()?.parse().ok()?;
-    Some(Race { load, sends })
+    let times = times.to_str()?.parse().ok()?;
+    let sends = |load| Race::Sends { load, sends: times };
+    match (verb.to_str()?, kind.to_str()?) {
+        ("speed", "query") => Some(sends(Load::Query)),
+        ("speed", "read") => Some(sends(Load::Read)),
+        ("speed", "sweeps") => Some(Race::Sweeps { sweeps: times }),
+        _ => None,
+    }
 }
 
 fn understand(words: &[OsString]) -> Option<Job> {
@@ -196,9 +215,10 @@ mod tests {
 
     #[test]
     fn loads_and_numbers_of_sends() {
-        let speed = |load, sends| Some(Race { load, sends });
+        let speed = |load, sends| Some(Race::Sends { load, sends });
         assert_eq!(race("speed query 7"), speed(Load::Query, 7));
         assert_eq!(race("speed read 0"), speed(Load::Read, 0));
+        assert_eq!(race("speed sweeps 7"), Some(Race::Sweeps { sweeps: 7 }));
         assert_eq!(race("speed"), None);
         assert_eq!(race("speed query"), None);
         assert_eq!(race("speed 7 query"), None);

@@ -78,7 +78,7 @@ fn send(bench: &mut Bench, frame: &[u8], buffer: &mut [u8; REPLY_ROOM]) -> Heari
     hearing.expect("the buffer has room for every reply")
 }
 
-fn full_bench() -> Bench {
+pub fn full_bench() -> Bench {
     let tag = |number| {
         let mut memory = [0; MEMORY_LENGTH];
         memory[..8].copy_from_slice(&[0xEF, 0x04, 0x02, 0, 0, 0, 0, number]);

@@ -4,10 +4,9 @@ use std::iter::Cycle;
 use std::slice;
 
 use crate::field::{Field, Hearing, REPLY_ROOM};
-use crate::frame::{sealed_with, Name};
+use crate::frame::{self, Name};
 use crate::list::{Full, List};
-use crate::order::Serial;
-use crate::tag_asker::access_frame;
+use crate::order::{Serial, SERIAL_LENGTH};
 
 /// How many rows of coins there may be.
 pub const MOST_ROWS: usize = 64;
@@ -155,15 +154,15 @@ impl<F: Field + ?Sized> Sweep<'_, '_, F> {
             .first_chunk()
             .expect("the buffer is longer than a serial number");
         self.serials.push(serial)?;
-        let read = access_frame(Name::Read, &serial, ADDRESS, &[]);
-        while self.send(&read, 0)? != Hearing::Lone {}
+        let mut target = [ADDRESS; SERIAL_LENGTH + 1];
+        target[..SERIAL_LENGTH].copy_from_slice(&serial);
+        while self.send(Name::Read, &target, 0)? != Hearing::Lone {}
         Ok(())
     }
 
     /// The last command, which opens no slot.
     fn close(&mut self) -> Result<(), Stop> {
-        let repeat = sealed_with(Name::Repeat as u8, &[]);
-        self.send(&repeat, 0).map(|_| ())
+        self.send(Name::Repeat, &[], 0).map(|_| ())
     }
 
     /// Whether a slot may be opened now; what is spent comes before what is full.
@@ -176,7 +175,7 @@ impl<F: Field + ?Sized> Sweep<'_, '_, F> {
     }
 
     fn slot(&mut self, name: Name, parameters: &[u8], row: u64) -> Result<Hearing, Stop> {
-        let hearing = self.send(&sealed_with(name as u8, parameters), row)?;
+        let hearing = self.send(name, parameters, row)?;
         self.slots.push(Slot {
             name,
             hearing,
@@ -185,9 +184,11 @@ impl<F: Field + ?Sized> Sweep<'_, '_, F> {
         Ok(hearing)
     }
 
-    fn send(&mut self, frame: &[u8], row: u64) -> Result<Hearing, Stop> {
+    fn send(&mut self, name: Name, parameters: &[u8], row: u64) -> Result<Hearing, Stop> {
         self.left = self.left.checked_sub(1).ok_or(Stop::Spent)?;
-        let heard = self.field.send(frame, row, &mut self.buffer);
+        let mut frame = [0; frame::LONGEST];
+        let length = frame::put(name as u8, parameters, &mut frame);
+        let heard = self.field.send(&frame[..length], row, &mut self.buffer);
         Ok(heard.expect("the buffer has room for every reply"))
     }
 }
@@ -196,9 +197,11 @@ impl<F: Field + ?Sized> Sweep<'_, '_, F> {
 mod tests {
     use super::*;
     use crate::field::{Bench, Single};
+    use crate::frame::sealed_with;
     use crate::layers::{Pair, Spoiler};
     use crate::listener::{Listener, Sent};
     use crate::tag::{State, Tag, MEMORY_LENGTH};
+    use crate::tag_asker::access_frame;
 
     const UNUSED: Slot = Slot {
         name: Name::Repeat,

@@ -1,0 +1,38 @@
+# What the measurements share. Each says how it runs the two programs, as the functions `proved` and `second`, which must
+# print the same line.
+. "$(dirname "${BASH_SOURCE[0]}")/../scripts/lib.sh"
+
+rounds=9
+work=$(mktemp -d)
+trap 'rm -rf "$work"' EXIT
+
+# Builds the second implementation, and a program on the proved library, as LLVM makes it.
+build() { # CRATE ARGUMENT..
+    local crate=$1
+    shift
+    cargo build --release --offline --quiet --manifest-path second/Cargo.toml
+    (cd "crates/$crate" && rt run -- "$@") > "$work/log" 2>&1 || { tail -n 20 "$work/log"; exit 1; }
+}
+
+# Runs one of the two, keeps its line, and adds its seconds of processor time to its list. Other work on the machine
+# lengthens those less than the seconds on the clock.
+run() { # NAME
+    local name=$1 TIMEFORMAT=%U
+    { time "$name" > "$work/$name.line"; } 2>> "$work/$name.times"
+}
+
+# Runs the two in turn.
+race() {
+    local round
+    rm -f "$work"/*.times
+    for ((round = 0; round < rounds; round++)); do
+        run proved
+        run second
+        cmp "$work/proved.line" "$work/second.line"
+    done
+}
+
+# The least of the times that one of them took.
+least() { # NAME
+    sort -n "$work/$1.times" | head -n 1
+}

@@ -1,0 +1,73 @@
+// Many whole sweeps of a full bench, for a clock outside to time: `SWEEPS`. Each sweep is of 64 new tags, by a list of 64
+// random rows of its own. The second implementation does the same and prints the same line.
+#![tactic(auto)]
+
+mod random;
+mod total;
+
+use crate::random::Random;
+use crate::total::Total;
+use anyhow::{Context, bail};
+use bench::bench::Bench;
+use rows::list::Rows;
+use slot::ending::Report;
+use slot::lists::Lists;
+use slot::row::{BLANK, Serial, SlotRow};
+use spelling::sample::numbered_tag;
+use std::{array, env};
+use sweep::sweep;
+
+// What the generator begins with.
+const SEED: u64 = 1;
+
+// How many commands a sweep may send, and how many slots it may list: more than 64 tags take.
+const BUDGET: u16 = 2000;
+
+const SLOTS: usize = 1000;
+
+// What all sweeps fill anew.
+#[derive(Drop)]
+struct Storage {
+    slots: [SlotRow; SLOTS],
+    serials: [Serial; 64],
+}
+
+// Sweeps 64 new tags, whose serial numbers differ in their last byte, by a list of rows.
+fn sweep_new(coins: &[u64], storage: &mut Storage) -> anyhow::Result<Report> {
+    let mut table = array::from_fn::<_, 64, _>(|place| numbered_tag(place as u8));
+    let mut bench = Bench::new();
+    bench
+        .set_table(&mut table)
+        .ok()
+        .context("too long a table")?;
+    let mut lists = Lists {
+        slots: Rows::new(&mut storage.slots),
+        serials: Rows::new(&mut storage.serials),
+    };
+    Ok(sweep(&mut bench, coins, BUDGET, &mut lists)?)
+}
+
+// Sweeps so many times, each time by the next 64 words of the generator.
+fn run(sweeps: usize) -> anyhow::Result<Total> {
+    let mut random = Random::new(SEED);
+    let mut storage = Storage {
+        slots: [BLANK; SLOTS],
+        serials: [[0; 8]; 64],
+    };
+    let mut total = Total::default();
+    for _ in 0..sweeps {
+        let coins = array::from_fn::<_, 64, _>(|_| random.word());
+        total.take(sweep_new(&coins, &mut storage)?);
+    }
+    Ok(total)
+}
+
+fn main(rt: HostRuntime) -> anyhow::Result<()> {
+    let words: Vec<String> = env::args(&rt)?.collect(rt.alloc())?;
+    let [_, sweeps] = words.as_slice() else {
+        bail!("sweep_speed SWEEPS");
+    };
+    let total = run(sweeps.as_str().parse::<usize>()?)?;
+    println!(rt; "{total}")?;
+    Ok(())
+}
