@@ -30,7 +30,9 @@ pub fn hear(tag: &mut Tag, bytes: &[u8], coin: bool) -> Option<Reply>
 }
 
 // Steps a tag on what opening a frame gave, and tells what it replies. The coin is what the tag draws at a QUERY: with
-// 1 it lets the others go first.
+// 1 it lets the others go first. A loop over tags spends its time here, so that a call would be felt; and where the loop
+// is for one command, the others fall away.
+#[inline(always)]
 pub fn step(tag: &mut Tag, opened: &Result<Frame<'_>, Refusal>, coin: bool) -> Option<Reply>
     ensures after { tag.new ≡ stepped (seen opened.now) coin tag.old }
     ensures reply { sounding (data_in tag.new result) ≡ replied (seen opened.now) coin tag.old }
@@ -61,6 +63,7 @@ fn sizes(tag: &Tag)
 }
 
 // First the mark falls and the permission is cleared, and then the frame is obeyed.
+#[inline(always)]
 fn advance(tag: &mut Tag, opened: &Result<Frame<'_>, Refusal>, coin: bool) -> Option<Reply>
     ensures after { tag.new ≡ stepped (seen opened.now) coin tag.old }
     ensures reply { sounding (data_in tag.new result) ≡ replied (seen opened.now) coin tag.old }
@@ -79,6 +82,7 @@ fn advance(tag: &mut Tag, opened: &Result<Frame<'_>, Refusal>, coin: bool) -> Op
 }
 
 // Obeys a command, if it concerns a tag in this state.
+#[inline(always)]
 fn obey(tag: &mut Tag, request: Request<'_>, coin: bool, permitted: Option<u8>) -> Option<Reply>
     ensures after { tag.new ≡ obeyed (asked (command_of request.entry) (parts_of request.entry)) coin permitted tag.old }
     ensures reply { data_in tag.new result ≡ answered (asked (command_of request.entry) (parts_of request.entry)) coin tag.old }

@@ -4,8 +4,8 @@ use Rattle.frame.specs.Openings.{Opening, seen}
 use Rattle.field.specs.declared.sound.Sound.{Sound}
 use Rattle.field.specs.Airs.{blended}
 use Rattle.bench.proofs.Walking.{Walked, blank, sound_of, beside_silence, walked_more, walked_all}
-use Rattle.bench.proofs.walk.step_all.Goals as goal
-use Rattle.bench.proofs.walk.step_all.Goals.{in-Some, in_default}
+use Rattle.bench.proofs.walk.step_each.Goals as goal
+use Rattle.bench.proofs.walk.step_each.Goals.{in-Some, in_default}
 
 pub loop-place-preserved : goal.loop-place-preserved
 loop-place-preserved c =
