@@ -14,6 +14,17 @@ impl Register {
         Register::filled(true)
     }
 
+    /// The register that holds a number.
+    pub const fn of(value: u16) -> Self {
+        let mut register = Register::filled(false);
+        let mut cell = 0;
+        while cell < register.cells.len() {
+            register.cells[cell] = value >> cell & 1 == 1;
+            cell += 1;
+        }
+        register
+    }
+
     /// Moves every cell up by one and feeds the bit in.
     pub const fn take_bit(&mut self, bit: bool) {
         let feedback = self.cells[15] != bit;

@@ -12,6 +12,7 @@ mod frame;
 mod layers;
 mod list;
 mod listener;
+mod listings;
 mod nesting;
 mod order;
 mod question;
@@ -42,7 +43,8 @@ const USAGE: &str = "usage: second frames SEED INPUT_FILE OUTPUT_FILE
        second sweeps SEED INPUT_FILE OUTPUT_FILE
        second speed query SENDS
        second speed read SENDS
-       second speed sweeps SWEEPS";
+       second speed sweeps SWEEPS
+       second listings FOLDER";
 
 /// What the questions are about.
 #[derive(Clone, Copy)]
@@ -90,11 +92,15 @@ fn main() -> ExitCode {
         println!("{}", race.run());
         return ExitCode::SUCCESS;
     }
-    let Some(job) = understand(&words) else {
+    let result = if let Some(folder) = understand_listings(&words) {
+        write_listings(&folder)
+    } else if let Some(job) = understand(&words) {
+        run(&job)
+    } else {
         eprintln!("{USAGE}");
         return ExitCode::from(2);
     };
-    match run(&job) {
+    match result {
         Ok(()) => ExitCode::SUCCESS,
         Err(error) => {
             eprintln!("second: {error}");
@@ -115,6 +121,14 @@ fn understand_race(words: &[OsString]) -> Option<Race> {
         ("speed", "sweeps") => Some(Race::Sweeps { sweeps: times }),
         _ => None,
     }
+}
+
+/// The folder of the crates whose listings are wanted.
+fn understand_listings(words: &[OsString]) -> Option<PathBuf> {
+    let [verb, folder] = words else {
+        return None;
+    };
+    (verb.to_str()? == "listings").then(|| folder.into())
 }
 
 fn understand(words: &[OsString]) -> Option<Job> {
@@ -168,6 +182,15 @@ fn lines(job: &Job) -> Vec<(String, String)> {
             .map(|asked| (asked.question.to_string(), asked.answer))
             .collect(),
     }
+}
+
+fn write_listings(folder: &Path) -> Result<(), String> {
+    for (name, text) in listings::files() {
+        let folder = folder.join(name).join("specs");
+        fs::create_dir_all(&folder).map_err(|error| format!("{}: {error}", folder.display()))?;
+        save(&folder.join("Listings.antt"), &text)?;
+    }
+    Ok(())
 }
 
 fn save(path: &Path, text: &str) -> Result<(), String> {
@@ -226,6 +249,18 @@ mod tests {
         assert_eq!(race("speed query -1"), None);
         assert_eq!(race("speed query 7 8"), None);
         assert_eq!(race("query 7"), None);
+    }
+
+    #[test]
+    fn listings_take_a_folder() {
+        let folder = |line: &str| {
+            let words: Vec<OsString> = line.split_whitespace().map(OsString::from).collect();
+            understand_listings(&words)
+        };
+        assert_eq!(folder("listings crates"), Some("crates".into()));
+        assert_eq!(folder("listings"), None);
+        assert_eq!(folder("listing crates"), None);
+        assert_eq!(folder("listings crates 7"), None);
     }
 
     #[test]

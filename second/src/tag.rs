@@ -153,6 +153,13 @@ impl Tag {
         frame::seal(bytes, reply.length())
     }
 
+    /// So many bytes from an address on.
+    pub fn stretch(&self, address: u8, length: u16) -> Vec<u8> {
+        let mut data = vec![0; usize::from(length)];
+        self.copy_out(usize::from(address), &mut data);
+        data
+    }
+
     fn copy_out(&self, first: usize, data: &mut [u8]) {
         let held = self.memory.get(first..).unwrap_or_default();
         let (front, behind) = data.split_at_mut(held.len().min(data.len()));
@@ -183,7 +190,7 @@ impl Tag {
 
 /// Telling tags apart.
 impl Tag {
-    fn matches(&self, comparison: &Comparison) -> bool {
+    pub fn matches(&self, comparison: &Comparison) -> bool {
         let first = usize::from(comparison.address);
         let mut bytes = comparison.word.iter().enumerate();
         bytes.all(|(index, &byte)| {
@@ -249,7 +256,7 @@ impl Tag {
         }
     }
 
-    fn change_confirmed(&self) -> bool {
+    pub fn change_confirmed(&self) -> bool {
         self.mark >= 1
     }
 

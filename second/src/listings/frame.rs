@@ -1,0 +1,229 @@
+//! Opening and making, with every refusal.
+
+use super::listing::{file as file_of, named_row, row, Listing};
+use super::term::{byte, bytes, command, number, stretch, Term};
+use crate::frame::{make, open, sealed, sealed_with, Part, COMMANDS};
+
+const HEAD: &str = "\
+-- Opening and making at the limits, by the second implementation, which wrote this file. Assumes nothing.
+use Rattle.std.specs.Prelude.{◌≡◌, ℕ, List, [], ◌∷◌, ◌++◌, length, replicate}
+use Rattle.std.specs.List.{AllByRecursion, range_with_len}
+use Rattle.protocol.specs.declared.command.Command.TheVariants.{Select, UnselectNe, UnselectIdFlag, UnselectNoidFlag, Query, Scroll, Repeat, Reset, Read, Verify, Lock, Qlock, ReadFlexible, Write}
+use Rattle.protocol.specs.declared.command.Parameter.{Parameter}
+use Rattle.protocol.specs.declared.command.Parameter.TheVariants.{Serial, Address, Mask, Word, Data, Length, Ignored}
+use Rattle.protocol.specs.Refusals.{Answer, told, denied}
+use Rattle.frame.specs.Makings.{making, answering, leaving}
+use Rattle.frame.specs.Openings.{Opening, refused, opened, opening}
+use Rattle.frame.specs.Parts.{Part}
+use Rattle.frame.specs.Writing.{laid}
+
+abbrev pub part : Parameter → ℕ → List ℕ → Part
+part parameter offset bytes = record { parameter = parameter; offset = offset; bytes = bytes }
+
+-- A code and parameters, a buffer, the answer of making and the buffer after it.
+pub record MakingCase : Type 0 where
+  pub code : ℕ
+  pub parameters : List ℕ
+  pub before : List ℕ
+  pub answer : Answer
+  pub after : List ℕ
+";
+
+/// What lies in a buffer before it is filled.
+const OLD: u8 = 0xA5;
+
+/// The longest parameters of a command.
+const MOST: usize = 14;
+
+pub fn file() -> String {
+    file_of(
+        HEAD,
+        &[opened_frames(), refused_frames(), makings(), laid_bytes()],
+    )
+}
+
+/// So many bytes, no two alike.
+fn counted(length: usize) -> Vec<u8> {
+    (0..length).map(|place| place as u8 + 0x30).collect()
+}
+
+fn opening(bytes: &[u8]) -> Term {
+    match open(bytes) {
+        Err(refusal) => Term::call("refused", &[number(refusal as u8)]),
+        Ok(opened) => {
+            let parts: Vec<Term> = opened
+                .parts
+                .iter()
+                .map(|part| part_term(part, bytes))
+                .collect();
+            let code = byte(opened.name as u8);
+            Term::call("opened", &[code, command(opened.name), Term::list(&parts)])
+        }
+    }
+}
+
+fn part_term(part: &Part, frame: &[u8]) -> Term {
+    let parameter = match part.name {
+        "SNR" => "Serial",
+        "ADDRESS" => "Address",
+        "BYTE_MASK" => "Mask",
+        "WORD_DATA" => "Word",
+        "BLOCK_DATA" => "Data",
+        "LENGTH" => "Length",
+        _ => "Ignored",
+    };
+    let held = &frame[part.offset..part.offset + part.length];
+    Term::call(
+        "part",
+        &[Term::word(parameter), number(part.offset), bytes(held)],
+    )
+}
+
+fn opened_row(frame: &[u8]) -> String {
+    row(&[bytes(frame), opening(frame)])
+}
+
+fn opened_frames() -> Listing {
+    let frame = |command: &crate::frame::Command| {
+        let parameters = counted(command.parameters_length());
+        opened_row(&sealed_with(command.code, &parameters))
+    };
+    Listing {
+        about: "A frame of each command, and what opening shows of it.",
+        name: "OpenedFrames",
+        law: "{X = List ℕ × Opening} (λ x. opening x.0 ≡ x.1)",
+        rows: COMMANDS.iter().map(frame).collect(),
+    }
+}
+
+fn refused_frames() -> Listing {
+    let mut frames: Vec<Vec<u8>> = vec![
+        vec![],
+        vec![0x09],
+        vec![0x00, 0x00],
+        vec![0x09, 0x8F],
+        vec![0x09, 0x8F, 0x27],
+        vec![0x09, 0x26, 0x8F],
+        vec![0x09, 0x70, 0xD9],
+        vec![0x01, 0x00, 0x00],
+    ];
+    for code in [0x01, 0x04, 0x1C, 0x50, 0xFF] {
+        frames.push(sealed(&[code]));
+    }
+    for (code, length) in [
+        (0x00, 0),
+        (0x00, 9),
+        (0x08, 1),
+        (0x19, 1),
+        (0x0C, 10),
+        (0x51, 9),
+        (0x1B, MOST - 1),
+        (0x1B, MOST + 1),
+        (0xFF, MOST),
+    ] {
+        frames.push(sealed_with(code, &counted(length)));
+    }
+    Listing {
+        about: "Byte strings that open as nothing, each with the number of its refusal.",
+        name: "RefusedFrames",
+        law: "{X = List ℕ × Opening} (λ x. opening x.0 ≡ x.1)",
+        rows: frames.iter().map(|frame| opened_row(frame)).collect(),
+    }
+}
+
+fn made_row(code: u8, length: usize, room: usize) -> String {
+    let parameters = counted(length);
+    let before = vec![OLD; room];
+    let mut after = before.clone();
+    let answer = match make(code, &parameters, &mut after) {
+        Ok(length) => Term::call("told", &[number(length)]),
+        Err(refusal) => Term::call("denied", &[number(refusal as u8)]),
+    };
+    named_row(&[
+        ("code", byte(code)),
+        ("parameters", bytes(&parameters)),
+        ("before", stretch(&before)),
+        ("answer", answer),
+        ("after", stretch(&after)),
+    ])
+}
+
+fn makings() -> Listing {
+    let rows = [
+        (0x09, 0, 3),
+        (0x09, 0, 2),
+        (0x09, 0, 0),
+        (0x09, 0, 8),
+        (0x00, 10, 13),
+        (0x00, 10, 12),
+        (0x19, 2, 6),
+        (0x51, 10, 13),
+        (0x1B, MOST, 17),
+        (0x1B, MOST, 16),
+        (0x1B, MOST, 24),
+        (0x1B, MOST - 1, 17),
+        (0x1B, MOST + 1, 0),
+        (0x08, 1, 8),
+        (0x01, 0, 8),
+        (0xFF, MOST + 3, 0),
+    ];
+    Listing {
+        about: "Making with room enough, with room one byte short, and with what makes no frame.",
+        name: "MadeFrames",
+        law: "{X = MakingCase}\n    (λ x. (answering (making x.code x.parameters (length x.before)) ≡ x.answer)\n    × (leaving (making x.code x.parameters (length x.before)) x.before ≡ x.after))",
+        rows: rows
+            .iter()
+            .map(|&(code, length, room)| made_row(code, length, room))
+            .collect(),
+    }
+}
+
+fn laid_bytes() -> Listing {
+    let laid = |&(room, place, length): &(usize, usize, usize)| {
+        let before = vec![OLD; room];
+        let bytes = counted(length);
+        let mut after = before.clone();
+        after[place..place + length].copy_from_slice(&bytes);
+        row(&[
+            stretch(&before),
+            number(place),
+            super::term::bytes(&bytes),
+            stretch(&after),
+        ])
+    };
+    Listing {
+        about: "A buffer, a place in it, bytes, and the buffer once they are laid over it there.",
+        name: "LaidBytes",
+        law: "{X = List ℕ × ℕ × List ℕ × List ℕ} (λ x. laid x.0 x.1 x.2 ≡ x.3)",
+        rows: [
+            (0, 0, 0),
+            (4, 0, 0),
+            (4, 4, 0),
+            (4, 0, 4),
+            (4, 3, 1),
+            (9, 2, 3),
+        ]
+        .iter()
+        .map(laid)
+        .collect(),
+    }
+}
+
+#[cfg(test)]
+mod tests {
+    use super::*;
+    use crate::frame::Refusal;
+
+    #[test]
+    fn every_refusal_of_opening_is_listed() {
+        let text = file();
+        for refusal in [
+            Refusal::TooShort,
+            Refusal::WrongCheck,
+            Refusal::UnknownCode,
+            Refusal::WrongLength,
+        ] {
+            assert!(text.contains(&format!("refused {}", refusal as u8)));
+        }
+    }
+}
