@@ -5,6 +5,7 @@ ghost use Rattle.std.specs.Prelude.{◌≡◌, ◌-◌, Decides, slice_index_or}
 ghost use Rattle.std.specs.Str.{bytes_eq};
 ghost use Rattle.record.specs.Records.{byte_at, locked_at, serial_of, mark_number, fallen, is_write_ok, new_tag};
 ghost use Rattle.record.specs.Alike.{alike, alike_partial_equivalence};
+ghost use Rattle.record.specs.Listings.{NewTags, Addresses, Marks, Likenesses};
 
 pub mod gap;
 pub mod marks;
@@ -65,9 +66,11 @@ impl WriteMark {
     }
 
     // One less, if it is not 0.
+    #[tactic(auto, using(crate::proofs::Listed::marks))]
     pub fn fallen(self) -> WriteMark
         ensures mark { result ≡ fallen self }
         ensures number { mark_number result ≡ mark_number self - 1 }
+        ensures worked { Marks }
     {
         match self {
             WriteMark::Fresh => WriteMark::Fading,
@@ -88,8 +91,10 @@ impl WriteMark {
 
 impl Tag {
     // A new tag: READY, with its first two bytes locked and all else clear.
+    #[tactic(auto, using(crate::proofs::Listed::new_tags))]
     pub fn new(memory: Memory) -> Tag
-        ensures { result ≡ new_tag memory }
+        ensures tag { result ≡ new_tag memory }
+        ensures worked { NewTags }
     {
         let mut locks = [false; SIZE];
         locks[0] = true;
@@ -129,8 +134,10 @@ impl Tag {
     }
 
     // Whether the byte at an address is locked, as all above 37 are.
+    #[tactic(auto, using(crate::proofs::Listed::addresses))]
     pub fn is_locked(&self, address: usize) -> bool
-        ensures { result ≡ locked_at self.now address }
+        ensures locked { result ≡ locked_at self.now address }
+        ensures worked { Addresses }
     {
         element(&self.locks, address, true)
     }
@@ -143,10 +150,11 @@ impl PartialEq for Tag {
 
     ghost laws = { alike_partial_equivalence };
 
-    #[tactic(auto, unfolding(crate::specs::Alike::alike))]
+    #[tactic(auto, unfolding(crate::specs::Alike::alike), using(crate::proofs::Listed::likenesses))]
     fn eq(&self, other: &Tag) -> bool
         ensures value { result ≡ alike self.now other.now }
         ensures alike { Decides result (self.now ≡ other.now) }
+        ensures worked { Likenesses }
     {
         self.memory == other.memory
             && self.locks == other.locks

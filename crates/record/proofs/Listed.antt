@@ -1,0 +1,40 @@
+-- The listings, computed. Assumes nothing.
+use Rattle.record.specs.Alike.{alike}
+use Rattle.record.specs.Listings.{NewTags, Addresses, Selections, Comparisons, Storings, Marks, States, Gaps, Likenesses}
+use Rattle.record.specs.Masks.{stored}
+
+pub new_tags : NewTags
+unfolding NewTags
+new_tags = search
+
+pub addresses : Addresses
+unfolding Addresses
+addresses = search
+
+pub selections : Selections
+unfolding Selections
+selections = search
+
+pub comparisons : Comparisons
+unfolding Comparisons
+comparisons = search
+
+pub storings : Storings
+unfolding Storings stored
+storings = search
+
+pub marks : Marks
+unfolding Marks
+marks = search
+
+pub states : States
+unfolding States
+states = search
+
+pub gaps : Gaps
+unfolding Gaps
+gaps = search
+
+pub likenesses : Likenesses
+unfolding Likenesses alike
+likenesses = search
