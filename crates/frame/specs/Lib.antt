@@ -1,4 +1,5 @@
 pub mod Cases
+pub mod Listings
 pub mod Makings
 pub mod Openings
 pub mod Parts
