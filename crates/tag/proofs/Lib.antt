@@ -1,2 +1,3 @@
 pub mod Accounts
 pub mod Limits
+pub mod Listed

@@ -1,4 +1,5 @@
 pub mod Cases
+pub mod Listings
 pub mod Memories
 pub mod Orders
 pub mod Steps
