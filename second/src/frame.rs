@@ -53,7 +53,8 @@ impl Command {
         self.parameters_length() + SHORTEST
     }
 
-    fn parts(&self) -> Vec<Part> {
+    /// The parameters, where a frame has them.
+    pub fn parts(&self) -> Vec<Part> {
         let mut offset = 1;
         let place = |parameter: &Parameter| {
             let part = Part {

@@ -75,6 +75,15 @@ impl<F: Field> Spoiler<F> {
             lone: 0,
         })
     }
+
+    /// Goes on over another field.
+    pub fn over<G: Field>(self, inner: G) -> Spoiler<G> {
+        Spoiler {
+            inner,
+            period: self.period,
+            lone: self.lone,
+        }
+    }
 }
 
 impl<F: Field> Field for Spoiler<F> {

@@ -1,7 +1,7 @@
 //! Opening and making, with every refusal.
 
 use super::listing::{file as file_of, named_row, row, Listing};
-use super::term::{byte, bytes, command, number, stretch, Term};
+use super::term::{byte, bytes, command, number, parameter, stretch, Term};
 use crate::frame::{make, open, sealed, sealed_with, Part, COMMANDS};
 
 const HEAD: &str = "\
@@ -63,19 +63,10 @@ fn opening(bytes: &[u8]) -> Term {
 }
 
 fn part_term(part: &Part, frame: &[u8]) -> Term {
-    let parameter = match part.name {
-        "SNR" => "Serial",
-        "ADDRESS" => "Address",
-        "BYTE_MASK" => "Mask",
-        "WORD_DATA" => "Word",
-        "BLOCK_DATA" => "Data",
-        "LENGTH" => "Length",
-        _ => "Ignored",
-    };
     let held = &frame[part.offset..part.offset + part.length];
     Term::call(
         "part",
-        &[Term::word(parameter), number(part.offset), bytes(held)],
+        &[parameter(part.name), number(part.offset), bytes(held)],
     )
 }
 

@@ -41,6 +41,14 @@ impl Term {
         }
     }
 
+    /// What is to stand in brackets.
+    pub fn open(text: String) -> Term {
+        Term {
+            text,
+            tie: Tie::Infix,
+        }
+    }
+
     pub fn list(items: &[Term]) -> Term {
         if items.is_empty() {
             return Term::word("[]");
@@ -53,7 +61,7 @@ impl Term {
     }
 
     /// Lists one behind another.
-    fn joined(lists: &[Term]) -> Term {
+    pub fn joined(lists: &[Term]) -> Term {
         let Some((last, front)) = lists.split_last() else {
             return Term::list(&[]);
         };
@@ -89,6 +97,11 @@ pub fn byte(byte: u8) -> Term {
 /// What fits in two bytes, by all their digits.
 pub fn two_bytes(number: u16) -> Term {
     Term::word(format!("0x{number:04x}"))
+}
+
+/// What may take eight bytes.
+pub fn wide(number: u64) -> Term {
+    Term::word(format!("0x{number:x}"))
 }
 
 pub fn number(number: impl ToString) -> Term {
@@ -173,6 +186,20 @@ pub fn command(name: Name) -> Term {
     })
 }
 
+/// A parameter by its name.
+pub fn parameter(name: &str) -> Term {
+    Term::word(match name {
+        "SNR" => "Serial",
+        "ADDRESS" => "Address",
+        "BYTE_MASK" => "Mask",
+        "WORD_DATA" => "Word",
+        "BLOCK_DATA" => "Data",
+        "LENGTH" => "Length",
+        "IGNORED" => "Ignored",
+        _ => panic!("no parameter is named {name}"),
+    })
+}
+
 /// The memory of most tags in the cases: the bytes 40 to 77, each once.
 pub fn plain_memory() -> [u8; MEMORY_LENGTH] {
     std::array::from_fn(|address| address as u8 + 0x40)
@@ -214,10 +241,15 @@ pub fn mark(mark: u8) -> Term {
 }
 
 pub fn tag(tag: &Tag) -> Term {
+    tag_with(memory(&tag.memory), tag)
+}
+
+/// A tag whose memory is told by a term.
+pub fn tag_with(memory: Term, tag: &Tag) -> Term {
     Term::call(
         "tag_with",
         &[
-            memory(&tag.memory),
+            memory,
             locks(tag.locks),
             state(tag.state),
             truth(tag.id_flag),

@@ -1,0 +1,86 @@
+//! Looking a serial number up in a table, and gaps for all tags of one.
+
+use super::crowd::{bench, numbered, selected, tags_in, tags_term};
+use super::listing::{file as file_of, row, Listing};
+use super::term::{bytes, maybe, number};
+use crate::field::Field;
+use crate::order::Serial;
+use crate::tag::{State, Tag};
+
+const HEAD: &str = "\
+-- Tables at the limits, by the second implementation, which wrote this file. Assumes nothing.
+use Rattle.std.specs.Prelude.{◌≡◌, ℕ, true, List, [], ◌∷◌, map, Some, None, Option}
+use Rattle.std.specs.List.{AllByRecursion, range_with_len}
+use Rattle.record.specs.declared.State.TheVariants.{Ready, Singulation, Inventoried}
+use Rattle.record.specs.declared.WriteMark.TheVariants.{Clear}
+use Rattle.record.specs.declared.Tag.{Tag}
+use Rattle.record.specs.Listings.{first_two, tag_with}
+use Rattle.field.specs.Listings.{ending, numbered}
+use Rattle.field.specs.Sends.{gapped_all}
+use Rattle.bench.specs.Tables.{place_of}
+";
+
+pub fn file() -> String {
+    file_of(HEAD, &[finds(), gaps()])
+}
+
+fn find(table: &[Tag], serial: &Serial) -> String {
+    let place = table.iter().position(|tag| tag.serial() == serial);
+    row(&[tags_term(table), bytes(serial), maybe(place.map(number))])
+}
+
+fn finds() -> Listing {
+    let ends = |last| [0, 0, 0, 0, 0, 0, 0, last];
+    let twice = [
+        numbered(2, State::Ready, 0),
+        numbered(1, State::Singulation, 0xFF),
+        numbered(1, State::Inventoried, 0),
+    ];
+    let full = selected(0..64);
+    Listing {
+        about: "Tables of none to 64 tags, a serial number, and the first place that has it.",
+        name: "Finds",
+        law: "{X = List Tag × List ℕ × Option ℕ} (λ x. place_of x.0 x.1 ≡ x.2)",
+        rows: vec![
+            find(&[], &ends(0)),
+            find(&selected(1..2), &ends(1)),
+            find(&selected(1..2), &ends(2)),
+            find(&selected(1..3), &ends(2)),
+            find(&selected(1..3), &[1, 0, 0, 0, 0, 0, 0, 2]),
+            find(&twice, &ends(1)),
+            find(&twice, &ends(2)),
+            find(&full, &ends(0)),
+            find(&full, &ends(63)),
+            find(&full, &ends(64)),
+        ],
+    }
+}
+
+fn gaps() -> Listing {
+    let busy = |number| Tag {
+        id_flag: true,
+        ..numbered(number, State::Inventoried, 0xFF)
+    };
+    let mut rows = Vec::new();
+    for before in [
+        vec![],
+        vec![busy(1)],
+        vec![busy(1), numbered(2, State::Singulation, 1)],
+    ] {
+        for microseconds in [249, 250, 3_999_999, 4_000_000] {
+            let mut field = bench(before.clone());
+            field.gap(microseconds);
+            rows.push(row(&[
+                tags_term(&before),
+                number(microseconds),
+                tags_term(&tags_in(&field)),
+            ]));
+        }
+    }
+    Listing {
+        about: "Tags, a gap in microseconds, and the tags after it.",
+        name: "GapsForAll",
+        law: "{X = List Tag × ℕ × List Tag} (λ x. gapped_all x.1 x.0 ≡ x.2)",
+        rows,
+    }
+}

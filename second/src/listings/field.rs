@@ -1,0 +1,234 @@
+//! Sends to tables of tags, what is on the air, and coins.
+
+use super::crowd::{
+    air, bench, heard, hearing, hearing_term, query, selected, tags_in, tags_term, toss,
+};
+use super::listing::{file as file_of, named_row, row, Listing};
+use super::term::{bytes, number, stretch, text, truth, wide, Term};
+use crate::field::{Field, Heard, Hearing, REPLY_ROOM};
+use crate::frame::{sealed_with, Name};
+use crate::layers::{Pair, Spoiler};
+use crate::tag::Tag;
+
+const HEAD: &str = "\
+-- Sends and gaps at the limits, by the second implementation, which wrote this file. Assumes nothing.
+use Rattle.std.specs.Prelude.{◌≡◌, ℕ, Bool, true, false, cond, List, [], ◌∷◌, ◌++◌, map, length, replicate, Some, None, Ok, Err, codes, Result}
+use Rattle.std.specs.List.{AllByRecursion, range_with_len}
+use Rattle.protocol.specs.declared.refusal.Refusal.{Refusal}
+use Rattle.protocol.specs.declared.refusal.Refusal.TheVariants.{Buffer}
+use Rattle.frame.specs.Openings.{opening}
+use Rattle.record.specs.declared.State.{State}
+use Rattle.record.specs.declared.State.TheVariants.{Ready, Singulation, Inventoried}
+use Rattle.record.specs.declared.WriteMark.TheVariants.{Clear}
+use Rattle.record.specs.declared.Tag.{Tag}
+use Rattle.record.specs.Listings.{first_two, tag_with}
+use Rattle.reply.specs.declared.Reply.TheVariants.{Serial}
+use Rattle.field.specs.declared.hearing.Hearing.{Hearing}
+use Rattle.field.specs.declared.hearing.Hearing.TheVariants.{Silence, Lone, Clash}
+use Rattle.field.specs.declared.sound.Sound.{Sound}
+use Rattle.field.specs.declared.sound.Sound.TheVariants as sound
+use Rattle.field.specs.Airs.{Air, silent, one, many, mixed, hearing_number, hearing_name, MayHear, plainly, hearing_of, blended}
+use Rattle.field.specs.Sends.{coin_at, on_air, is_short, sent_to, left_in}
+
+-- A memory of which only the serial number's last byte is not 00.
+abbrev pub ending : ℕ → List ℕ
+ending n = replicate 7 0x00 ++ (n ∷ replicate 48 0x00)
+
+-- A new tag with that memory, in some state, with some counter.
+abbrev pub numbered : ℕ → State → ℕ → Tag
+numbered n state counter = tag_with (ending n) first_two state false counter Clear None
+
+-- Tags, a frame, a row of coins and a reply buffer; then the tags after the send, what is heard where every lone reply
+-- is heard as lone, and the buffer after it.
+pub record SendCase : Type 0 where
+  pub before : List Tag
+  pub frame : List ℕ
+  pub row : ℕ
+  pub buffer : List ℕ
+  pub after : List Tag
+  pub result : Result Hearing Refusal
+  pub left : List ℕ
+
+-- What a send gives where every lone reply is heard as lone.
+abbrev pub given : ℕ → Air → Result Hearing Refusal
+given room air = cond (is_short room) (Err Buffer) (Ok (plainly air))
+
+pub record Sent (x : SendCase) : Type 0 where
+  pub tags : sent_to (length x.buffer) x.frame x.row x.before ≡ x.after
+  pub result : given (length x.buffer) (on_air (opening x.frame) x.row x.before) ≡ x.result
+  pub buffer : left_in x.result (on_air (opening x.frame) x.row x.before) x.buffer ≡ x.left
+";
+
+const OLD: u8 = 0xA5;
+
+const TAIL: &str = "
+-- What a send rests on.
+pub record SendCases : Type 0 where
+  pub sends : Sends
+  pub coins : Coins
+  pub mixed : MixedAirs
+  pub heard : HeardAirs
+";
+
+pub fn file() -> String {
+    let listings = [sends(), coins(), airs(), heard_airs(), hearings(), blends()];
+    file_of(HEAD, &listings) + TAIL
+}
+
+fn send_row(before: Vec<Tag>, frame: &[u8], coins: u64, room: usize) -> String {
+    let mut field = bench(before.clone());
+    let mut buffer = vec![OLD; room];
+    let result = match field.send(frame, coins, &mut buffer) {
+        Ok(heard) => Term::call("Ok", &[hearing_term(heard)]),
+        Err(_) => Term::call("Err", &[Term::word("Buffer")]),
+    };
+    named_row(&[
+        ("before", tags_term(&before)),
+        ("frame", bytes(frame)),
+        ("row", wide(coins)),
+        ("buffer", stretch(&vec![OLD; room])),
+        ("after", tags_term(&tags_in(&field))),
+        ("result", result),
+        ("left", stretch(&buffer)),
+    ])
+}
+
+fn sends() -> Listing {
+    let query = query();
+    let read = |number| sealed_with(Name::Read as u8, &[0, 0, 0, 0, 0, 0, 0, number, 0x00]);
+    let longest = sealed_with(Name::ReadFlexible as u8, &[0, 0, 0, 0, 0, 0, 0, 1, 0, 0xFF]);
+    let last = 1 << 63;
+    Listing {
+        about: "Sends to no tag, one, two and 64, at both ends of a row, and with buffers that are short, exact and long.",
+        name: "Sends",
+        law: "Sent",
+        rows: vec![
+            send_row(vec![], &query, 0, REPLY_ROOM),
+            send_row(selected(1..2), &query, 0, REPLY_ROOM),
+            send_row(selected(1..2), &query, 1, REPLY_ROOM),
+            send_row(selected(1..2), &query, 2, REPLY_ROOM),
+            send_row(selected(1..3), &query, 0, REPLY_ROOM),
+            send_row(selected(1..3), &query, 1, REPLY_ROOM + 2),
+            send_row(selected(1..3), &query, 2, REPLY_ROOM),
+            send_row(selected(1..3), &query, u64::MAX, REPLY_ROOM),
+            send_row(selected(1..3), &query, 0, REPLY_ROOM - 1),
+            send_row(selected(1..2), &query, 1, 0),
+            send_row(selected(1..3), &read(2), 0, REPLY_ROOM),
+            send_row(selected(1..3), &longest, 0, REPLY_ROOM + 2),
+            send_row(selected(1..3), &[], 0, REPLY_ROOM),
+            send_row(selected(0..64), &query, last, REPLY_ROOM),
+            send_row(selected(0..64), &query, u64::MAX - last, REPLY_ROOM),
+        ],
+    }
+}
+
+fn coins() -> Listing {
+    let mut rows = Vec::new();
+    for coins in [1, 2, 1 << 63, u64::MAX - 1] {
+        let mut field = bench(selected(0..64));
+        toss(&mut field, coins);
+        for place in [0, 1, 62, 63] {
+            let lost = field.tag(place).counter > 0;
+            rows.push(row(&[wide(coins), number(place), truth(lost)]));
+        }
+    }
+    Listing {
+        about: "A row of coins, a place, and its coin.",
+        name: "Coins",
+        law: "{X = ℕ × ℕ × Bool} (λ x. coin_at x.0 x.1 ≡ x.2)",
+        rows,
+    }
+}
+
+fn hearings() -> Listing {
+    let listed = |each: Hearing| {
+        row(&[
+            hearing_term(each),
+            number(each as u8),
+            text(&each.to_string()),
+        ])
+    };
+    Listing {
+        about: "The hearings, with their numbers and names.",
+        name: "HearingsListed",
+        law: "{X = Hearing × ℕ × List ℕ} (λ x. (hearing_number x.0 ≡ x.1) × (hearing_name x.0 ≡ x.2))",
+        rows: [Hearing::Silence, Hearing::Lone, Hearing::Clash]
+            .map(listed)
+            .into(),
+    }
+}
+
+/// Groups of which none, one and two answer.
+fn groups(first: u8) -> [Vec<Tag>; 3] {
+    [0, 1, 2].map(|count| selected(first..first + count))
+}
+
+fn airs() -> Listing {
+    let mut rows = Vec::new();
+    for left in groups(1) {
+        for right in groups(8) {
+            let all = [left.clone(), right.clone()].concat();
+            let on_air = |tags: Vec<Tag>| heard(&mut bench(tags), air);
+            rows.push(row(&[on_air(left.clone()), on_air(right), on_air(all)]));
+        }
+    }
+    Listing {
+        about: "What two groups of tags put on the air, and what they do together.",
+        name: "MixedAirs",
+        law: "{X = Air × Air × Air} (λ x. mixed x.0 x.1 ≡ x.2)",
+        rows,
+    }
+}
+
+fn heard_airs() -> Listing {
+    let mut rows = Vec::new();
+    for group in groups(1) {
+        let on_air = heard(&mut bench(group.clone()), air);
+        let plain = heard(&mut bench(group.clone()), hearing);
+        let mut spoiler = Spoiler::new(1, bench(group)).expect("there is a period");
+        let spoiled = heard(&mut spoiler, hearing);
+        let plainly = hearing_term(plain);
+        rows.push(row(&[on_air.clone(), plainly.clone(), plainly.clone()]));
+        if spoiled != plain {
+            rows.push(row(&[on_air, hearing_term(spoiled), plainly]));
+        }
+    }
+    Listing {
+        about: "What is on the air, what is heard of it by a bench or by a spoiler of all, and what a bench hears.",
+        name: "HeardAirs",
+        law: "{X = Air × Hearing × Hearing} (λ x. MayHear x.0 x.1 × (plainly x.0 ≡ x.2))",
+        rows,
+    }
+}
+
+/// A lone sound is told by the number of its tag, which stands for the place.
+fn sound(heard: Heard) -> (Term, Hearing) {
+    let term = match heard {
+        Heard::Silence => Term::word("sound.Silence"),
+        Heard::Lone(tag, _) => {
+            Term::call("sound.Lone", &[number(tag.memory[7]), Term::word("Serial")])
+        }
+        Heard::Clash => Term::word("sound.Clash"),
+    };
+    (term, hearing(heard))
+}
+
+fn blends() -> Listing {
+    let mut rows = Vec::new();
+    for left in groups(1) {
+        for right in groups(8) {
+            let (on_left, _) = heard(&mut bench(left.clone()), sound);
+            let (on_right, _) = heard(&mut bench(right.clone()), sound);
+            let pair = Pair::new(bench(left.clone()), bench(right));
+            let mut pair = pair.expect("there are not too many places");
+            let (both, hearing) = heard(&mut pair, sound);
+            rows.push(row(&[on_left, on_right, both, hearing_term(hearing)]));
+        }
+    }
+    Listing {
+        about: "Two sounds, what they are together, and the hearing in that.",
+        name: "Blends",
+        law: "{X = Sound × Sound × Sound × Hearing} (λ x. (blended x.0 x.1 ≡ x.2) × (hearing_of x.2 ≡ x.3))",
+        rows,
+    }
+}

@@ -1,0 +1,106 @@
+//! What the panel is shown of a frame.
+
+use super::listing::{file as file_of, named_row, Listing};
+use super::term::{bytes, number, stretch};
+use crate::frame::{open, sealed, sealed_with, Opened, Refusal, COMMANDS};
+
+const HEAD: &str = "\
+-- What the panel is shown at the limits, by the second implementation, which wrote this file. Assumes nothing.
+use Rattle.std.specs.Prelude.{◌≡◌, ℕ, List, [], ◌∷◌, ◌++◌, length, replicate}
+use Rattle.std.specs.List.{AllByRecursion}
+use Rattle.frame.specs.Openings.{opening}
+use Rattle.panel.specs.Shown.{answering, leaving}
+
+-- A frame, the panel's bytes, the answer, and the bytes after it.
+pub record PanelCase : Type 0 where
+  pub frame : List ℕ
+  pub before : List ℕ
+  pub answer : ℕ
+  pub after : List ℕ
+
+abbrev pub Shows : PanelCase → Type 0
+Shows x = (answering (opening x.frame) (length x.before) ≡ x.answer) × (leaving (opening x.frame) x.before ≡ x.after)
+";
+
+/// The parameters in the order in which the panel has them.
+const PLACES: [&str; 7] = [
+    "SNR",
+    "ADDRESS",
+    "BYTE_MASK",
+    "WORD_DATA",
+    "BLOCK_DATA",
+    "LENGTH",
+    "IGNORED",
+];
+
+/// The code, and two bytes for each parameter.
+const SHOWN: usize = 1 + 2 * PLACES.len();
+
+const OLD: u8 = 0xA5;
+
+pub fn file() -> String {
+    file_of(HEAD, &[shown_frames()])
+}
+
+fn shown(opened: &Opened) -> [u8; SHOWN] {
+    let mut shown = [0; SHOWN];
+    shown[0] = opened.name as u8;
+    for part in &opened.parts {
+        let place = PLACES.iter().position(|&name| name == part.name);
+        let first = 1 + 2 * place.expect("every parameter has a place");
+        shown[first] = part.offset as u8;
+        shown[first + 1] = part.length as u8;
+    }
+    shown
+}
+
+/// What the panel is answered: 0, or the number of a refusal.
+fn show(frame: &[u8], buffer: &mut [u8]) -> Result<(), Refusal> {
+    let opened = open(frame)?;
+    let front = buffer.get_mut(..SHOWN).ok_or(Refusal::NoRoom)?;
+    front.copy_from_slice(&shown(&opened));
+    Ok(())
+}
+
+fn row(frame: &[u8], room: usize) -> String {
+    let before = vec![OLD; room];
+    let mut after = before.clone();
+    let answer = show(frame, &mut after)
+        .err()
+        .map_or(0, |refusal| refusal as u8);
+    named_row(&[
+        ("frame", bytes(frame)),
+        ("before", stretch(&before)),
+        ("answer", number(answer)),
+        ("after", stretch(&after)),
+    ])
+}
+
+fn shown_frames() -> Listing {
+    let mut rows: Vec<String> = COMMANDS
+        .iter()
+        .map(|command| {
+            let parameters = vec![0x5A; command.parameters_length()];
+            row(&sealed_with(command.code, &parameters), SHOWN)
+        })
+        .collect();
+    let query = sealed(&[0x08]);
+    for room in [SHOWN + 1, SHOWN - 1, 0] {
+        rows.push(row(&query, room));
+    }
+    for frame in [
+        vec![],
+        vec![0x09, 0x8F, 0x27],
+        sealed(&[0x01]),
+        sealed(&[0x00]),
+    ] {
+        rows.push(row(&frame, SHOWN));
+        rows.push(row(&frame, 0));
+    }
+    Listing {
+        about: "A frame of each command, room that is longer and one byte short, and each refusal.",
+        name: "ShownFrames",
+        law: "Shows",
+        rows,
+    }
+}
