@@ -1,3 +1,4 @@
 pub mod Buffers
 pub mod Hearings
+pub mod Listed
 pub mod Walks

@@ -1,3 +1,4 @@
 pub mod Airs
 pub mod Declining
+pub mod Listings
 pub mod Sends

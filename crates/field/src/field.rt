@@ -8,6 +8,7 @@ ghost use Rattle.record.specs.Gaps.{gapped};
 ghost use Rattle.tag.specs.Steps.{stepped};
 ghost use Rattle.field.specs.declared.hearing.Hearing.{Hearing};
 ghost use Rattle.field.specs.Airs.{MayHear, plainly, hearing_of, Tells, spoken};
+ghost use Rattle.field.specs.Listings.{SendCases};
 ghost use Rattle.field.specs.Sends.{coin_at, stepped_all, on_air, gapped_all, is_short, sent_to, refusal_in, left_in, padded, InPlace};
 
 use crate::hearing::Hearing;
@@ -64,6 +65,7 @@ pub trait Field {
 
     // Sends a frame, any bytes, with a row of coins: the tag at place i takes bit i. What is heard of it stands in the
     // buffer after that: a lone reply followed by 00, otherwise 00 alone.
+    #[tactic(auto, using(crate::proofs::Listed::send_cases))]
     fn send(&mut self, bytes: &[u8], row: u64, buffer: &mut [u8]) -> Result<Hearing, Refusal>
         ensures refusal { refusal_in result ≡ (if is_short (length buffer.old) then Some 5 else None) }
         ensures tags { tags self.new ≡ sent_to (length buffer.old) bytes.now row (tags self.old) }
@@ -73,6 +75,7 @@ pub trait Field {
         ensures places { OnOk result (InPlace (λ place. stepped (opening bytes.now) (coin_at row place)) (tags self.old) (tags self.new)) }
         ensures kind { IfOk result (λ h. hears self.old (opening bytes.now) row h self.new) }
         ensures same { OnErr result (self.new ≡ self.old) }
+        ensures worked { SendCases }
     {
         if buffer.len() < ROOM {
             return Err(Refusal::Buffer);

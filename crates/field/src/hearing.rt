@@ -1,6 +1,7 @@
 // What a reader hears after a frame.
 ghost use Rattle.std.specs.Prelude.{◌≡◌, Some};
 ghost use Rattle.field.specs.Airs.{hearing_number, hearing_name};
+ghost use Rattle.field.specs.Listings.{HearingsListed};
 
 use std::fmt;
 
@@ -16,8 +17,10 @@ pub enum Hearing {
 
 impl Hearing {
     // The number by which the hearing is known outside.
+    #[tactic(auto, using(crate::proofs::Listed::hearings_listed))]
     pub fn number(self) -> u8
-        ensures { result ≡ hearing_number self }
+        ensures number { result ≡ hearing_number self }
+        ensures worked { HearingsListed }
     {
         self as u8
     }

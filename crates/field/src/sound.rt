@@ -1,6 +1,7 @@
 // What comes from the tags of a field, before anyone writes it out.
 ghost use Rattle.std.specs.Prelude.{◌≡◌};
 ghost use Rattle.field.specs.Airs.{hearing_of, blended};
+ghost use Rattle.field.specs.Listings.{Blends};
 
 use crate::hearing::Hearing;
 use reply::Reply;
@@ -22,8 +23,10 @@ impl Sound {
     }
 
     // Heard together with another sound: two that are not silence are a clash.
+    #[tactic(auto, using(crate::proofs::Listed::blends))]
     pub fn blend(self, other: Sound) -> Sound
-        ensures { result ≡ blended self other }
+        ensures sound { result ≡ blended self other }
+        ensures worked { Blends }
     {
         match (self, other) {
             (Sound::Silence, sound) => sound,

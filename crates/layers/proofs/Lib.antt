@@ -1,1 +1,2 @@
 pub mod Joining
+pub mod Listed

@@ -1,2 +1,3 @@
+pub mod Listings
 pub mod Pairs
 pub mod Spoilers

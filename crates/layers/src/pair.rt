@@ -2,6 +2,7 @@
 ghost use Rattle.std.specs.Prelude.{◌≡◌, ◌+◌, ◌^◌, ◌<◌, ◌&&◌, ◌++◌, length, IfOk, IfErr, if◌then◌else◌, Some, None, MatchBool};
 ghost use Rattle.field.specs.Declining.{declined_by};
 ghost use Rattle.field.specs.Sends.{row_behind};
+ghost use Rattle.layers.specs.Listings.{PairCases};
 ghost use Rattle.layers.specs.Pairs.{fits, paired, paired_few, place_in, behind, Halves, Split};
 
 use field::declined::Declined;
@@ -26,6 +27,7 @@ impl<L: Field, R: Field> Pair<L, R> {
         ensures parts { IfOk result (λ p. (p.left ≡ left) × (p.right ≡ right)) }
         ensures back { IfErr result (λ e. e.given ≡ (left, right)) }
         ensures split { Split (L.Field.tags left) (R.Field.tags right) }
+        ensures worked { PairCases }
     {
         if left.places() + right.places() > PLACES {
             return Err(Declined {

@@ -9,6 +9,7 @@ ghost use Rattle.frame.specs.Openings.{opening};
 ghost use Rattle.frame.specs.Parts.{span_of};
 ghost use Rattle.frame.specs.Requests.{parts_of};
 ghost use Rattle.protocol.specs.Refusals.{number_of};
+ghost use Rattle.panel.specs.Listings.{ShownFrames};
 ghost use Rattle.panel.specs.Shown.{Small, offset_in, length_in, shown_of, answering, leaving};
 
 use crc::check_value;
@@ -28,9 +29,11 @@ pub fn nolbashi_check_value(message: &[u8]) -> u16
 
 // Opens a frame, and shows its code and its parameters in the first bytes of `shown`. Answers 0, or the number of the
 // refusal, and then nothing is changed.
+#[tactic(auto, using(crate::proofs::Listed::shown_frames))]
 pub fn nolbashi_open(frame: &[u8], shown: &mut [u8]) -> u8
     ensures answer { result ≡ answering (opening frame.now) (length shown.old) }
     ensures shown { shown.new ≡ leaving (opening frame.now) shown.old }
+    ensures worked { ShownFrames }
 {
     // A number, since C has no Result.
     show(frame, shown).err().map_or(0, u8::from)

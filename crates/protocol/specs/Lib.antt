@@ -1,4 +1,5 @@
 pub mod Commands
 pub mod Entries
+pub mod Listings
 pub mod Names
 pub mod Refusals

@@ -2,6 +2,7 @@
 ghost use Rattle.std.specs.Prelude.{◌≡◌, map};
 ghost use Rattle.protocol.specs.Commands.{code_of, commands, entry_of, first_entry};
 ghost use Rattle.protocol.specs.Entries.{Entered};
+ghost use Rattle.protocol.specs.Listings.{CommandsListed, UnknownCodes};
 
 use crate::refusal::Refusal;
 
@@ -144,8 +145,11 @@ impl From<Command> for u8 {
 }
 
 // The entry of a code, if a command has it.
+#[tactic(auto, using(crate::proofs::Listed::commands_listed, crate::proofs::Listed::unknown_codes))]
 pub fn find(code: u8) -> Option<Entry>
-    ensures { result ≡ first_entry code (map entry_of commands) }
+    ensures entry { result ≡ first_entry code (map entry_of commands) }
+    ensures known { CommandsListed }
+    ensures unknown { UnknownCodes }
 {
     first_entry(code, &COMMANDS)
 }

@@ -7,6 +7,7 @@ use Rattle.field.specs.declared.sound.Sound.{Sound}
 use Rattle.field.specs.Airs.{MayHear, plainly, hearing_of, spoken, caught, Tells}
 use Rattle.field.specs.Sends.{coin_at, stepped_all, on_air, is_short, padded, InPlace}
 use Rattle.field.proofs.Hearings.{written, may_hear, caught-written}
+use Rattle.field.proofs.Listed.{send_cases}
 use Rattle.field.proofs.Walks.{stepped_in_place}
 use Rattle.field.proofs.field.Field.send.Goals as goal
 use Rattle.field.proofs.field.Field.send.Goals.{in-Lone, in-Silence}
@@ -43,4 +44,5 @@ returns g c =
       kind = subst (λ (h : Hearing). g.Self.Field.hears c.args.self.now frame row h c.listen-sound.new.self) (sym told)
           (subst (λ (o : Opening). g.Self.Field.hears c.args.self.now o row (hearing_of s) c.listen-sound.new.self) opens c.listen-sound.ensures.kind);
       same = tt;
+      worked = send_cases;
     }

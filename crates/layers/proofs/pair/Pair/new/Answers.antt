@@ -1,6 +1,7 @@
 use Rattle.std.proofs.Common.{◌+◌, length, refl, arith, le-leb}
 use borrow.Author.Tests.{lt-leb}
 use Rattle.layers.proofs.Joining.{splits}
+use Rattle.layers.proofs.Listed.{pair_cases}
 use Rattle.layers.proofs.pair.Pair.new.Goals as goal
 
 pub returns-then-places-gt-PLACES : goal.returns-then-places-gt-PLACES
@@ -12,6 +13,7 @@ returns-then-places-gt-PLACES g c =
       parts = tt;
       back = refl;
       split = splits left right;
+      worked = pair_cases;
     }
 
 pub returns : goal.returns
@@ -23,4 +25,5 @@ returns g c =
       parts = (refl, refl);
       back = tt;
       split = splits left right;
+      worked = pair_cases;
     }

@@ -4,4 +4,4 @@ use Rattle.protocol.proofs.Lookups.{entered}
 use Rattle.protocol.proofs.command.EntryTryFromU8.try_from.Goals as goal
 
 pub returns : goal.returns
-returns c = subst (Entered c.args.code) (sym c.ok_or.ensures.value) (entered c.args.code c.find.result c.find.ensures)
+returns c = subst (Entered c.args.code) (sym c.ok_or.ensures.value) (entered c.args.code c.find.result c.find.ensures.entry)
