@@ -3,6 +3,7 @@ ghost use Rattle.std.specs.Prelude.{◌≡◌, ◌≤◌, true, [], length, IfEr
 ghost use Rattle.field.specs.Airs.{plainly};
 ghost use Rattle.field.specs.Declining.{declined_by};
 ghost use Rattle.field.specs.Sends.{on_air};
+ghost use Rattle.bench.specs.Listings.{Finds};
 ghost use Rattle.bench.specs.Tables.{place_of};
 
 use crate::walk::{pass_all, step_all};
@@ -60,8 +61,10 @@ impl<'a> Bench<'a> {
 }
 
 // The first place of a table that has a serial number.
+#[tactic(auto, using(crate::proofs::Listed::finds))]
 pub fn place_of(table: &[Tag], serial: &[u8]) -> Option<usize>
-    ensures { result ≡ place_of table.now serial.now }
+    ensures place { result ≡ place_of table.now serial.now }
+    ensures worked { Finds }
 {
     table.iter().position(|tag| tag.has_serial(serial))
 }

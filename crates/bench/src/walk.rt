@@ -3,6 +3,7 @@ ghost use Rattle.std.specs.Prelude.{◌≡◌, true};
 ghost use Rattle.frame.specs.Openings.{seen};
 ghost use Rattle.field.specs.Airs.{hearing_of, plainly, Tells};
 ghost use Rattle.field.specs.Sends.{stepped_all, on_air, gapped_all};
+ghost use Rattle.bench.specs.Listings.{GapsForAll};
 
 use field::sound::Sound;
 use frame::opening::Frame;
@@ -48,8 +49,10 @@ fn step_each(table: &mut [Tag], opened: &Result<Frame<'_>, Refusal>, row: u64) -
     sound
 }
 
+#[tactic(auto, using(crate::proofs::Listed::gaps_for_all))]
 pub(crate) fn pass_all(table: &mut [Tag], microseconds: u32)
-    ensures { table.new ≡ gapped_all microseconds table.old }
+    ensures tags { table.new ≡ gapped_all microseconds table.old }
+    ensures worked { GapsForAll }
 {
     for tag in table.iter_mut() {
         tag.pass(microseconds);

@@ -15,7 +15,7 @@ loop-place-preserved c =
     λ r e. ap (λ (r : Option Reply). blended w.sound (sound_of w.place r)) e in
     subst (λ (s : Sound). Walked frame c.args.row c.args.table.now (set w.table w.place c.step.new.tag) (w.place + 1) (w.coins / 2) s)
     (elim c.match-step.branch [
-      | in-Some x ↦ with _ x.in-Some.is ∙ sym x.blend-sound.ensures ∙ sym x.sound-is
+      | in-Some x ↦ with _ x.in-Some.is ∙ sym x.blend-sound.ensures.sound ∙ sym x.sound-is
       | in_default x ↦ with _ x.in_default.is ∙ beside_silence w.sound ∙ sym x.sound-is
     ])
     (walked_more frame c.args.row c.args.table.now w.table w.place w.coins w.sound blank c.step.new.tag c.step.result
