@@ -1,4 +1,5 @@
 pub mod Fronts
+pub mod Listings
 pub mod Papers
 pub mod Readings
 pub mod Sheets

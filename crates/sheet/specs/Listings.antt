@@ -64,7 +64,7 @@ Columns =
 -- Sheets with no line but the last, with slots and serial numbers, and with numbers of one to seven digits.
 unfoldable pub SheetsPrinted : Type 0
 SheetsPrinted =
-    AllByRecursion (λ x. sheet x.slots x.serials x.report ≡ lines x.sheet)
+    AllByRecursion {X = SheetCase} (λ x. sheet x.slots x.serials x.report ≡ lines x.sheet)
     (record {
       slots = [];
       serials = [];

@@ -153,7 +153,7 @@ fn sheets() -> Listing {
     Listing {
         about: "Sheets with no line but the last, with slots and serial numbers, and with numbers of one to seven digits.",
         name: "SheetsPrinted",
-        law: "(λ x. sheet x.slots x.serials x.report ≡ lines x.sheet)",
+        law: "{X = SheetCase} (λ x. sheet x.slots x.serials x.report ≡ lines x.sheet)",
         rows: vec![
             sheet_row(&[], &[], outcome(Ok(()), [0, 0, 0], 0)),
             sheet_row(&[], &[], outcome(spent, [1, 12, 123], 1_234)),
