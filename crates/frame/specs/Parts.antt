@@ -28,22 +28,22 @@ Within frame parts =
     AllByRecursion (λ p. (take (length p.bytes) (drop p.offset frame) ≡ p.bytes) × (p.offset + length p.bytes + 2 ≤ length frame)) parts
 
 -- The parameters by number, in the order in which frames have them.
-abbrev pub place_of : Parameter → ℕ
-place_of Serial = 0
-place_of Address = 1
-place_of Mask = 2
-place_of Word = 3
-place_of Data = 4
-place_of Length = 5
-place_of Ignored = 6
+abbrev pub parameter_number : Parameter → ℕ
+parameter_number Serial = 0
+parameter_number Address = 1
+parameter_number Mask = 2
+parameter_number Word = 3
+parameter_number Data = 4
+parameter_number Length = 5
+parameter_number Ignored = 6
 
 -- Where a parameter lies, if it is there.
 abbrev pub span_of : Parameter → List Part → Option Span
 span_of p [] = None
 span_of p (x ∷ xs) =
-    cond (place_of x.parameter == place_of p) (Some (record { offset = x.offset; length = length x.bytes })) (span_of p xs)
+    cond (parameter_number x.parameter == parameter_number p) (Some (record { offset = x.offset; length = length x.bytes })) (span_of p xs)
 
 -- A parameter's bytes, none if it is not there.
 abbrev pub bytes_of : Parameter → List Part → List ℕ
 bytes_of p [] = []
-bytes_of p (x ∷ xs) = cond (place_of x.parameter == place_of p) x.bytes (bytes_of p xs)
+bytes_of p (x ∷ xs) = cond (parameter_number x.parameter == parameter_number p) x.bytes (bytes_of p xs)

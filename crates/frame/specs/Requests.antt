@@ -12,23 +12,23 @@ use Rattle.frame.specs.declared.request.Request.{Request}
 use Rattle.frame.specs.declared.request.Request.TheVariants.{Select, UnselectNe, UnselectIdFlag, UnselectNoidFlag, Query, Scroll, Repeat, Reset, Read, Verify, Lock, Qlock, ReadFlexible, Write}
 use Rattle.frame.specs.Parts.{Part}
 
-abbrev pub byte_at : Parameter → At (Bor ℕ) → Part
-byte_at p b = record { parameter = p; offset = b.offset; bytes = b.part.now ∷ [] }
+abbrev pub byte_part : Parameter → At (Bor ℕ) → Part
+byte_part p b = record { parameter = p; offset = b.offset; bytes = b.part.now ∷ [] }
 
-abbrev pub bytes_at : Parameter → At (Bor (List ℕ)) → Part
-bytes_at p b = record { parameter = p; offset = b.offset; bytes = b.part.now }
+abbrev pub bytes_part : Parameter → At (Bor (List ℕ)) → Part
+bytes_part p b = record { parameter = p; offset = b.offset; bytes = b.part.now }
 
 abbrev pub comparison_parts : Comparison → List Part
-comparison_parts c = byte_at Address c.address ∷ byte_at Mask c.mask ∷ bytes_at Word c.word ∷ []
+comparison_parts c = byte_part Address c.address ∷ byte_part Mask c.mask ∷ bytes_part Word c.word ∷ []
 
 abbrev pub target_parts : Target → List Part
-target_parts t = bytes_at Serial t.serial ∷ byte_at Address t.address ∷ []
+target_parts t = bytes_part Serial t.serial ∷ byte_part Address t.address ∷ []
 
 abbrev pub parts_of : Request → List Part
 parts_of (Select c) = comparison_parts c
 parts_of (UnselectNe c) = comparison_parts c
-parts_of (UnselectIdFlag b) = bytes_at Ignored b ∷ []
-parts_of (UnselectNoidFlag b) = bytes_at Ignored b ∷ []
+parts_of (UnselectIdFlag b) = bytes_part Ignored b ∷ []
+parts_of (UnselectNoidFlag b) = bytes_part Ignored b ∷ []
 parts_of Query = []
 parts_of Scroll = []
 parts_of Repeat = []
@@ -37,8 +37,8 @@ parts_of (Read t) = target_parts t
 parts_of (Verify t) = target_parts t
 parts_of (Lock t) = target_parts t
 parts_of (Qlock t) = target_parts t
-parts_of (ReadFlexible t l) = target_parts t ++ byte_at Length l ∷ []
-parts_of (Write t m d) = target_parts t ++ byte_at Mask m ∷ bytes_at Data d ∷ []
+parts_of (ReadFlexible t l) = target_parts t ++ byte_part Length l ∷ []
+parts_of (Write t m d) = target_parts t ++ byte_part Mask m ∷ bytes_part Data d ∷ []
 
 abbrev pub command_of : Request → Command
 command_of (Select c) = command.Select

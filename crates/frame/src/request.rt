@@ -1,7 +1,7 @@
 // What a frame asks, with its parameters as parts of the frame's own bytes.
 ghost use Rattle.std.specs.Prelude.{◌≡◌, ℕ, List, [], ◌∷◌, length};
 ghost use Rattle.protocol.specs.Commands.{layout, sizes};
-ghost use Rattle.frame.specs.Requests.{parts_of, command_of, comparison_parts, target_parts, bytes_at};
+ghost use Rattle.frame.specs.Requests.{parts_of, command_of, comparison_parts, target_parts, bytes_part};
 ghost use Rattle.frame.specs.Parts.{placed, span_of};
 ghost use Rattle.protocol.specs.declared.command.Parameter.TheVariants.{Serial, Address, Mask, Word, Length, Data, Ignored};
 
@@ -224,7 +224,7 @@ impl<'a> BytesAt<'a> {
     // The two bytes that no tag looks at.
     fn ignored(parameters: &'a [u8]) -> BytesAt<'a>
         requires { length parameters.now ≡ 2 }
-        ensures { bytes_at Ignored result ∷ [] ≡ placed 1 (Ignored ∷ []) parameters.now }
+        ensures { bytes_part Ignored result ∷ [] ≡ placed 1 (Ignored ∷ []) parameters.now }
     {
         At {
             offset: 1,
