@@ -160,6 +160,7 @@ impl TryFrom<u8> for Entry {
 
     ghost try_from_gives = { Entered };
 
+    #[tactic(auto, using(crate::proofs::Lookups::entered))]
     fn try_from(code: u8) -> Result<Entry, Refusal> {
         find(code).ok_or(Refusal::Code)
     }
