@@ -63,6 +63,7 @@ fn play_on<F: Field>(side: Side, field: &mut F, calls: &[Call<'_>], lists: &mut 
 }
 
 // One call on the field of one side.
+#[tactic(auto, using(crate::proofs::Tellings::told_send, crate::proofs::Tellings::told_gap, crate::proofs::Tellings::told_sweep))]
 fn meet<F: Field>(side: Side, field: &mut F, call: Call<'_>, lists: &mut Lists<'_>) -> Answer
     ensures { Told F.faithful (step_on side lists.old call.entry ∷ []) (F.tags field.old) (F.tags field.new) lists.old lists.new result }
 {
