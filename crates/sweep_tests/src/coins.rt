@@ -37,13 +37,9 @@ fn refused(rt: &impl Abort, coins: &[u64]) -> Result<(), Fail> {
 }
 
 #[test]
-fn no_rows(rt: HostRuntime) -> Result<(), Fail> {
+fn no_rows_and_65(rt: HostRuntime) -> Result<(), Fail> {
     assert_eq!(rt; Refusal::Coins.number(), 10);
-    refused(&rt, &[])
-}
-
-#[test]
-fn rows_65(rt: HostRuntime) -> Result<(), Fail> {
+    refused(&rt, &[])?;
     refused(&rt, &[2; 65])
 }
 
@@ -97,14 +93,9 @@ fn rows_are_drawn_again(rt: HostRuntime) -> Result<(), Fail> {
 // By a row of ones alone both tags wait, and come back together.
 #[test]
 fn all_wait_without_end(rt: HostRuntime) -> Result<(), Fail> {
-    let slots: [Row; 101] = array::from_fn(|place| match place {
-        0 => (Select, Clash, 0),
-        _ if place % 2 == 1 => (Query, Silence, 1),
-        _ => (Scroll, Clash, 0),
-    });
     let wanted = Wanted {
         outcome: (8, [0, 50, 51, 101]),
-        slots: &slots,
+        slots: &wait_and_clash(),
         serials: &[],
     };
     let given = Given {

@@ -58,15 +58,12 @@ fn left_alone(rt: &impl Abort, tag: Tag) -> Result<(), Fail> {
     Ok(())
 }
 
+// One that does not match, and any that is INVENTORIED.
 #[test]
-fn left_alone_inventoried(rt: HostRuntime) -> Result<(), Fail> {
-    left_alone(&rt, used(new_tag(2), State::Inventoried))?;
-    left_alone(&rt, used(foreign(), State::Inventoried))
-}
-
-#[test]
-fn left_alone_not_matching(rt: HostRuntime) -> Result<(), Fail> {
-    left_alone(&rt, used(foreign(), State::Ready))
+fn others_are_left_alone(rt: HostRuntime) -> Result<(), Fail> {
+    left_alone(&rt, used(foreign(), State::Ready))?;
+    left_alone(&rt, used(foreign(), State::Inventoried))?;
+    left_alone(&rt, used(new_tag(2), State::Inventoried))
 }
 
 // One command takes the permission, and one of the mark.
@@ -94,22 +91,16 @@ fn one_command(rt: HostRuntime) -> Result<(), Fail> {
 }
 
 #[test]
-fn found_ready(rt: HostRuntime) -> Result<(), Fail> {
-    let mut table = [used(new_tag(1), State::Ready)];
-    sweeps_table(&rt, &mut table, roomy(&COINS), ONE)?;
-    assert!(rt; table == [found(new_tag(1))]);
+fn found_in_both_states(rt: HostRuntime) -> Result<(), Fail> {
+    for state in [State::Ready, State::Singulation] {
+        let mut table = [used(new_tag(1), state)];
+        sweeps_table(&rt, &mut table, roomy(&COINS), ONE)?;
+        assert!(rt; table == [found(new_tag(1))]);
+    }
     Ok(())
 }
 
-#[test]
-fn found_in_singulation(rt: HostRuntime) -> Result<(), Fail> {
-    let mut table = [used(new_tag(1), State::Singulation)];
-    sweeps_table(&rt, &mut table, roomy(&COINS), ONE)?;
-    assert!(rt; table == [found(new_tag(1))]);
-    Ok(())
-}
-
-// It need not match. Its serial number begins otherwise: only the last byte is that of another tag.
+// In SINGULATION it need not match. Its serial number begins otherwise: only the last byte is that of another tag.
 #[test]
 fn found_in_singulation_not_matching(rt: HostRuntime) -> Result<(), Fail> {
     let mut memory = [0; SIZE];

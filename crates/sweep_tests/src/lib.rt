@@ -6,19 +6,15 @@ mod coins;
 #[cfg(test)]
 mod crowds;
 #[cfg(test)]
+mod cuts;
+#[cfg(test)]
 mod deep;
 #[cfg(test)]
 mod earlier;
 #[cfg(test)]
 mod fates;
 #[cfg(test)]
-mod full;
-#[cfg(test)]
-mod orders;
-#[cfg(test)]
 mod setting;
-#[cfg(test)]
-mod spent;
 #[cfg(test)]
 mod spoilers;
 #[cfg(test)]

@@ -73,6 +73,16 @@ pub(crate) fn crowd() -> [Tag; 64] {
     array::from_fn(|place| new_tag(place as u8 + 1))
 }
 
+// The slots of tags that wait together and come back together, or of one that is always spoiled.
+pub(crate) fn wait_and_clash() -> [Row; 101] {
+    let mut slots = [(Command::Scroll, Hearing::Clash, 0); 101];
+    slots[0] = (Command::Select, Hearing::Clash, 0);
+    for slot in slots.iter_mut().skip(1).step_by(2) {
+        *slot = (Command::Query, Hearing::Silence, 1);
+    }
+    slots
+}
+
 // Some coins, 1,000 commands at most, and room for all that the tests list.
 pub(crate) fn roomy(coins: &[u64]) -> Given<'_> {
     Given {

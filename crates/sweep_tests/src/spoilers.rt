@@ -5,58 +5,55 @@ use bench::bench::Bench;
 use bench::single::Single;
 use field::hearing::Hearing::{Clash, Lone, Silence};
 use protocol::command::Command::{Query, Scroll, Select};
-use std::array;
 use std::test::Fail;
 
-// A spoiled READ is sent again.
+// Of two tags the second is asked once more, since its reply is spoiled; a spoiled READ is sent again.
 #[test]
-fn of_each_second_reply(rt: HostRuntime) -> Result<(), Fail> {
-    let mut table = [new_tag(1), new_tag(2)];
-    let wanted = Wanted {
-        outcome: (0, [2, 1, 2, 10]),
-        slots: &[
-            (Select, Clash, 0),
-            (Query, Lone, 1),
-            (Scroll, Clash, 0),
-            (Query, Silence, 1),
-            (Scroll, Lone, 0),
-        ],
-        serials: &[1, 2],
-    };
-    let mut field = spoiler_of(bench_over(&mut table)?, 2)?;
-    sweeps(&rt, &mut field, roomy(&COINS), wanted)
+fn of_each_second_and_third_reply(rt: HostRuntime) -> Result<(), Fail> {
+    for (period, commands) in [(2, 10), (3, 8)] {
+        let mut table = [new_tag(1), new_tag(2)];
+        let wanted = Wanted {
+            outcome: (0, [2, 1, 2, commands]),
+            slots: &[
+                (Select, Clash, 0),
+                (Query, Lone, 1),
+                (Scroll, Clash, 0),
+                (Query, Silence, 1),
+                (Scroll, Lone, 0),
+            ],
+            serials: &[1, 2],
+        };
+        let mut field = spoiler_of(bench_over(&mut table)?, period)?;
+        sweeps(&rt, &mut field, roomy(&COINS), wanted)?;
+    }
+    Ok(())
 }
 
-// The reply of the second tag is spoiled, and it is asked once more.
+// One tag, whose first READ is spoiled: stopped before each READ, and not.
 #[test]
-fn of_each_third_reply(rt: HostRuntime) -> Result<(), Fail> {
-    let mut table = [new_tag(1), new_tag(2)];
-    let wanted = Wanted {
-        outcome: (0, [2, 1, 2, 8]),
-        slots: &[
-            (Select, Clash, 0),
-            (Query, Lone, 1),
-            (Scroll, Clash, 0),
-            (Query, Silence, 1),
-            (Scroll, Lone, 0),
-        ],
-        serials: &[1, 2],
-    };
-    let mut field = spoiler_of(bench_over(&mut table)?, 3)?;
-    sweeps(&rt, &mut field, roomy(&COINS), wanted)
+fn before_a_repeated_read(rt: HostRuntime) -> Result<(), Fail> {
+    for (budget, end) in [(2, 8), (3, 8), (4, 0)] {
+        let given = Given {
+            budget,
+            ..roomy(&COINS)
+        };
+        let wanted = Wanted {
+            outcome: (end, [1, 0, 0, budget]),
+            slots: &[(Select, Lone, 0)],
+            serials: &[1],
+        };
+        let mut field = spoiler_of(Single::new(new_tag(1)), 2)?;
+        sweeps(&rt, &mut field, given, wanted)?;
+    }
+    Ok(())
 }
 
 // A tag that is never heard alone is never read.
 #[test]
 fn of_each_reply(rt: HostRuntime) -> Result<(), Fail> {
-    let slots: [Row; 100] = array::from_fn(|place| match place {
-        0 => (Select, Clash, 0),
-        _ if place % 2 == 1 => (Query, Silence, 1),
-        _ => (Scroll, Clash, 0),
-    });
     let wanted = Wanted {
         outcome: (8, [0, 50, 50, 100]),
-        slots: &slots,
+        slots: &wait_and_clash()[..100],
         serials: &[],
     };
     let given = Given {

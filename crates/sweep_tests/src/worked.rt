@@ -6,7 +6,6 @@ use field::field::Field;
 use field::hearing::Hearing::{Clash, Lone, Silence};
 use protocol::command::Command::{Query, Scroll, Select};
 use record::{State, Tag};
-use std::process::Abort;
 use std::test::Fail;
 
 // The row in which the second tag lets the first go before.
@@ -29,7 +28,7 @@ pub(crate) const READ: Parts = (State::Inventoried, 0, Some(0));
 pub(crate) const DONE: Parts = (State::Inventoried, 0, None);
 
 // The tag of a number once it has these parts.
-fn with_parts(number: u8, (state, counter, permission): Parts) -> Tag {
+pub(crate) fn with_parts(number: u8, (state, counter, permission): Parts) -> Tag {
     Tag {
         state,
         identified: state == State::Inventoried,
@@ -39,45 +38,17 @@ fn with_parts(number: u8, (state, counter, permission): Parts) -> Tag {
     }
 }
 
-// The sweep, cut short by its budget or by the room of its lists: the outcome, how many slots and serial numbers are
-// listed, and what the tags come to.
-pub(crate) fn cut(
-    rt: &impl Abort,
-    given: Given<'_>,
-    outcome: Outcome,
-    (slots, serials): (usize, usize),
-    (first, second): (Parts, Parts),
-) -> Result<(), Fail> {
-    let mut table = [new_tag(1), new_tag(2)];
-    let wanted = Wanted {
-        outcome,
-        slots: SLOTS.get(..slots).ok_or("too many slots")?,
-        serials: [1, 2].get(..serials).ok_or("too many serial numbers")?,
-    };
-    sweeps_table(rt, &mut table, given, wanted)?;
-    assert!(rt; table == [with_parts(1, first), with_parts(2, second)]);
-    Ok(())
-}
-
-#[test]
-fn the_worked_sweep(rt: HostRuntime) -> Result<(), Fail> {
-    let given = Given {
-        budget: 100,
-        ..roomy(&COINS)
-    };
-    cut(&rt, given, (0, [2, 0, 1, 6]), (3, 2), (DONE, DONE))
-}
+const WHOLE: Wanted<'static> = Wanted {
+    outcome: (0, [2, 0, 1, 6]),
+    slots: &SLOTS,
+    serials: &[1, 2],
+};
 
 #[test]
 fn on_a_pair(rt: HostRuntime) -> Result<(), Fail> {
     let (mut left, mut right) = ([new_tag(1)], [new_tag(2)]);
     let mut field = pair_of(bench_over(&mut left)?, bench_over(&mut right)?)?;
-    let wanted = Wanted {
-        outcome: (0, [2, 0, 1, 6]),
-        slots: &SLOTS,
-        serials: &[1, 2],
-    };
-    sweeps(&rt, &mut field, roomy(&COINS), wanted)
+    sweeps(&rt, &mut field, roomy(&COINS), WHOLE)
 }
 
 #[test]
@@ -96,15 +67,10 @@ fn on_a_single(rt: HostRuntime) -> Result<(), Fail> {
 #[test]
 fn a_second_sweep_finds_nobody(rt: HostRuntime) -> Result<(), Fail> {
     let mut table = [new_tag(1), new_tag(2)];
-    let whole = Wanted {
-        outcome: (0, [2, 0, 1, 6]),
-        slots: &SLOTS,
-        serials: &[1, 2],
-    };
-    sweeps_table(&rt, &mut table, roomy(&COINS), whole)?;
+    sweeps_table(&rt, &mut table, roomy(&COINS), WHOLE)?;
     sweeps_table(&rt, &mut table, roomy(&COINS), NOBODY)?;
     bench_over(&mut table)?.pass(250);
-    sweeps_table(&rt, &mut table, roomy(&COINS), whole)
+    sweeps_table(&rt, &mut table, roomy(&COINS), WHOLE)
 }
 
 // The sweep of no tag that is to be found.
