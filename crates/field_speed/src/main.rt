@@ -42,7 +42,7 @@ fn run(heap: Global, load: Load, sends: usize) -> anyhow::Result<Tally> {
 fn main(rt: HostRuntime) -> anyhow::Result<()> {
     let words: Vec<String> = env::args(&rt)?.collect(rt.alloc())?;
     let [_, load, sends] = words.as_slice() else {
-        bail!("field_speed query|read SENDS");
+        bail!("two words are wanted: query or read, and how many sends");
     };
     let tally = run(
         rt.alloc(),

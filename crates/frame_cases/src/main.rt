@@ -2,12 +2,13 @@
 // The answers of another implementation are stored beside it, for comparison.
 #![tactic(auto)]
 
-use anyhow::bail;
+use anyhow::{Context, bail};
 use crc::check_value;
 use frame::making::make;
 use frame::opening::{Frame, open};
 use protocol::command::PARAMETERS;
 use spelling::hexadecimal::{Hex, read_byte, read_bytes};
+use spelling::line::Line;
 use std::alloc::{AllocError, Global};
 use std::io::{BufRead, BufReader};
 use std::{fmt, iter};
@@ -70,13 +71,14 @@ fn answer(rt: &HostRuntime, line: &str) -> anyhow::Result<()> {
         }
         (Some("open"), Some(text), None, _) => answer_open(rt, text),
         (Some("make"), Some(code), Some(text), Some(room)) => answer_make(rt, code, text, room),
-        _ => bail!("no question"),
+        _ => bail!("no question: `check BYTES`, `open BYTES` or `make CODE BYTES ROOM`"),
     }
 }
 
 fn run(rt: &HostRuntime) -> anyhow::Result<()> {
-    for line in BufReader::new(rt.alloc(), rt.stdin())?.lines(rt.alloc()) {
-        answer(rt, line?.as_str())?;
+    let lines = BufReader::new(rt.alloc(), rt.stdin())?.lines(rt.alloc());
+    for (number, line) in (1..).zip(lines) {
+        answer(rt, line?.as_str()).context(Line { number })?;
     }
     Ok(())
 }

@@ -108,7 +108,9 @@ impl<'a> Build<'a> for Leaf<'a> {
         match source.word()? {
             "bench" => bench_leaf(source),
             "single" => single_leaf(source),
-            _ => Err(Trouble::Words(anyhow!("no field"))),
+            _ => Err(Trouble::Words(anyhow!(
+                "no field: `bench PLACES`, `single`, `pair LEFT RIGHT` or `spoiler PERIOD BELOW`"
+            ))),
         }
     }
 }

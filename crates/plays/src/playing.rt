@@ -5,11 +5,12 @@ use crate::building::{Build, Trouble, built};
 use crate::nesting::Below;
 use crate::reading::{read_tag, split_word};
 use crate::showing::of_tags;
-use anyhow::{bail, ensure};
+use anyhow::{Context, bail, ensure};
 use bench::bench::{Bench, place_of};
 use field::field::Field;
 use record::Tag;
 use spelling::hexadecimal::read_bytes;
+use spelling::line::Line;
 use std::io::{BufRead, BufReader};
 
 // What a program answers to the questions about a field. Each play begins with a new one.
@@ -39,7 +40,7 @@ pub fn answer_call<R: Print + AllocGlobal, F: Field>(
             println!(rt; "{}", asked.send(&sending))?;
         }
         "gap" => println!(rt; "gap {}", asked.pass(rest.parse::<u32>()?))?,
-        _ => bail!("no question to a field"),
+        _ => bail!("no question to a field, as `send ROW ROOM FRAME` is"),
     }
     Ok(())
 }
@@ -59,7 +60,9 @@ impl<R: Print + AllocGlobal> Stage<'_, R> {
         match verb {
             "tag" => self.add(rest),
             "find" => self.find(rest),
-            _ => bail!("no question about a table"),
+            _ => bail!(
+                "no question about a table: `tag STATE ..`, `find SERIAL` or `field NESTING`"
+            ),
         }
     }
 
@@ -127,22 +130,25 @@ fn play<R: Print + AllocGlobal, A: Answer>(rt: &R, lines: &[String]) -> anyhow::
         stage.prepare(line.as_str())?;
         lines = questions;
     }
-    bail!("a play without a field")
+    bail!("no line `field NESTING`")
 }
 
 // Plays what stands in the input, play after play.
 pub fn play_all<R: Input + Print + AllocGlobal, A: Answer>(rt: &R) -> anyhow::Result<()> {
     let mut lines = Vec::new(rt.alloc());
-    for line in BufReader::new(rt.alloc(), rt.reader())?.lines(rt.alloc()) {
+    let input = BufReader::new(rt.alloc(), rt.reader())?.lines(rt.alloc());
+    for (number, line) in (1..).zip(input) {
         let line = line?;
         if line.as_str() == "end" {
-            play::<R, A>(rt, lines.as_slice())?;
+            play::<R, A>(rt, lines.as_slice())
+                .context("the play that ends here")
+                .context(Line { number })?;
             println!(rt; "end")?;
             lines.clear();
         } else {
             lines.push(line)?;
         }
     }
-    ensure!(lines.is_empty(), "a play without an end");
+    ensure!(lines.is_empty(), "no line `end` behind the last play");
     Ok(())
 }

@@ -1,5 +1,5 @@
 -- Why a text is not read or a frame not made, and what reading gives. Assumes nothing.
-use Rattle.std.specs.Prelude.{◌≡◌, ℕ, List, codes, Result, MatchResult}
+use Rattle.std.specs.Prelude.{◌≡◌, ℕ, List, ◌++◌, codes, decimal, Result, MatchResult}
 use Rattle.hex.specs.declared.error.FromHexError.{FromHexError}
 use Rattle.hex.specs.declared.error.FromHexError.TheVariants.{InvalidHexCharacter, OddLength, InvalidStringLength, OutOfMemory}
 use Rattle.protocol.specs.Names.{refusal_name}
@@ -14,6 +14,10 @@ misspelt_text Missing = codes "a word is missing"
 misspelt_text Surplus = codes "a word too many"
 misspelt_text (Refused refusal) = refusal_name refusal
 misspelt_text Memory = codes "out of memory"
+
+-- Where it stands, by the line's number.
+abbrev pub line_text : ℕ → List ℕ
+line_text number = codes "line " ++ decimal number
 
 -- An error of the crate `hex`, in this crate's words.
 abbrev pub of_hex : FromHexError → Misspelt

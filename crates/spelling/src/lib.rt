@@ -2,6 +2,7 @@
 #![tactic(auto)]
 
 pub mod hexadecimal;
+pub mod line;
 pub mod misspelt;
 pub mod sample;
 pub mod sent;

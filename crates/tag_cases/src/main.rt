@@ -11,10 +11,15 @@ use frame::opening::open;
 use record::{SIZE, State, Tag};
 use reply::Reply;
 use spelling::hexadecimal::{read_array, read_byte, read_bytes};
+use spelling::line::Line;
 use spelling::sent::replied;
 use spelling::words::{no_word, read_bit, read_locks, read_mark, read_permission, word};
 use std::io::{BufRead, BufReader};
 use tag::step;
+
+// What is told of a line that is none of them.
+const QUESTIONS: &str =
+    "no question: `new MEMORY`, `locks LOCKS`, `set STATE ..`, `step COIN FRAME` or `gap MICROSECONDS`";
 
 // A tag that is asked, and where its answers are printed.
 #[derive(Drop)]
@@ -39,7 +44,7 @@ impl Asked<'_> {
 
     // Does to the tag what a question says, and tells its reply if it gives one.
     fn put(&mut self, question: &str) -> anyhow::Result<Option<Reply>> {
-        let (verb, rest) = question.split_once(' ').context("no question")?;
+        let (verb, rest) = question.split_once(' ').context(QUESTIONS)?;
         // A match and no table of closures, since each verb has words of its own.
         match verb {
             "new" => self.tag = Tag::new(read_array::<SIZE>(rest)?),
@@ -47,7 +52,7 @@ impl Asked<'_> {
             "set" => self.set(rest)?,
             "step" => return self.send(rest),
             "gap" => self.tag.pass(rest.parse::<u32>()?),
-            _ => bail!("no question"),
+            _ => bail!("{QUESTIONS}"),
         }
         Ok(None)
     }
@@ -79,8 +84,9 @@ fn run(rt: &HostRuntime) -> anyhow::Result<()> {
         rt,
         tag: Tag::new([0; SIZE]),
     };
-    for line in BufReader::new(rt.alloc(), rt.stdin())?.lines(rt.alloc()) {
-        asked.answer(line?.as_str())?;
+    let lines = BufReader::new(rt.alloc(), rt.stdin())?.lines(rt.alloc());
+    for (number, line) in (1..).zip(lines) {
+        asked.answer(line?.as_str()).context(Line { number })?;
     }
     Ok(())
 }
