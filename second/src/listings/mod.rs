@@ -31,3 +31,21 @@ pub fn files() -> [(&'static str, String); 11] {
         ("tag", tag::file()),
     ]
 }
+
+#[cfg(test)]
+mod tests {
+    use super::*;
+
+    #[test]
+    fn every_file_is_whole() {
+        for (name, text) in files() {
+            assert!(text.starts_with("-- ") && text.ends_with('\n'), "{name}");
+            assert!(!text.contains("()") && !text.contains("  ]"), "{name}");
+            let listings = text.matches("AllByRecursion ").count();
+            assert_eq!(text.matches("\n    ∷ [])\n").count(), listings, "{name}");
+            let used = text.matches("AllByRecursion}").count();
+            let also = text.matches("AllByRecursion,").count();
+            assert_eq!(used + also, 1, "{name}");
+        }
+    }
+}

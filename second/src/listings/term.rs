@@ -133,8 +133,8 @@ pub fn stretch(all: &[u8]) -> Term {
     let mut single = Vec::new();
     let mut rest = all;
     while let [first, ..] = rest {
-        let equal = run(rest, |byte, _| byte);
-        let growing = run(rest, |byte, place| byte.wrapping_sub(place as u8));
+        let equal = run(rest, |byte, _| i32::from(byte));
+        let growing = run(rest, |byte, place| i32::from(byte) - place);
         let length = equal.max(growing);
         if length < RUN {
             single.push(*first);
@@ -159,11 +159,8 @@ pub fn stretch(all: &[u8]) -> Term {
 }
 
 /// How many bytes from the first on have the same key.
-fn run(bytes: &[u8], key: impl Fn(u8, usize) -> u8) -> usize {
-    let keys = bytes
-        .iter()
-        .enumerate()
-        .map(|(place, &byte)| key(byte, place));
+fn run(bytes: &[u8], key: impl Fn(u8, i32) -> i32) -> usize {
+    let keys = bytes.iter().zip(0..).map(|(&byte, place)| key(byte, place));
     keys.take_while(|&each| each == key(bytes[0], 0)).count()
 }
 
@@ -258,4 +255,61 @@ pub fn tag_with(memory: Term, tag: &Tag) -> Term {
             maybe(tag.permission.map(byte)),
         ],
     )
+}
+
+#[cfg(test)]
+mod tests {
+    use super::*;
+
+    fn spelt(term: Term) -> String {
+        term.text().to_string()
+    }
+
+    #[test]
+    fn brackets_stand_where_they_are_needed() {
+        let list = bytes(&[0x00, 0xFF]);
+        assert_eq!(spelt(list.clone()), "0x00 ∷ 0xff ∷ []");
+        let some = maybe(Some(list.clone()));
+        assert_eq!(spelt(some.clone()), "Some (0x00 ∷ 0xff ∷ [])");
+        let lists = [list.clone(), Term::word("[]")];
+        assert_eq!(spelt(Term::list(&lists)), "(0x00 ∷ 0xff ∷ []) ∷ [] ∷ []");
+        assert_eq!(spelt(Term::list(&[some])), "Some (0x00 ∷ 0xff ∷ []) ∷ []");
+        assert_eq!(
+            spelt(Term::tuple(&[list, maybe(None)])),
+            "(0x00 ∷ 0xff ∷ [], None)"
+        );
+    }
+
+    #[test]
+    fn runs_have_a_word() {
+        assert_eq!(spelt(stretch(&[])), "[]");
+        assert_eq!(spelt(stretch(&[7, 7, 7])), "0x07 ∷ 0x07 ∷ 0x07 ∷ []");
+        assert_eq!(spelt(stretch(&[7; 4])), "replicate 4 0x07");
+        assert_eq!(spelt(stretch(&[1, 2, 3, 4])), "range_with_len 0x01 4");
+        assert_eq!(
+            spelt(stretch(&[9, 1, 2, 3, 4, 4, 4, 4, 5])),
+            "(0x09 ∷ []) ++ (range_with_len 0x01 4 ++ (0x04 ∷ 0x04 ∷ 0x04 ∷ 0x05 ∷ []))"
+        );
+        assert_eq!(
+            spelt(stretch(&[0xFE, 0xFF, 0x00, 0x01])),
+            "0xfe ∷ 0xff ∷ 0x00 ∷ 0x01 ∷ []"
+        );
+    }
+
+    #[test]
+    fn tags_by_their_parts() {
+        assert_eq!(
+            spelt(tag(&plain())),
+            "tag_with plain first_two Ready false 0x00 Clear None"
+        );
+        let mut other = plain();
+        other.memory[0] = 0;
+        other.locks = Locks([0x80, 0, 0, 0, 0, 0, 0x01]);
+        other.permission = Some(0x37);
+        assert_eq!(
+            spelt(tag(&other)),
+            "tag_with ((0x00 ∷ []) ++ range_with_len 0x41 55) (locked_in (0x00 ∷ 0x37 ∷ [])) \
+             Ready false 0x00 Clear (Some 0x37)"
+        );
+    }
 }
