@@ -13,7 +13,7 @@ use Rattle.compare.specs.declared.call.Call.TheVariants as call
 use Rattle.compare.specs.Meetings.{send, gap, sweep, step_on, steps_on, Account, unsent, heard, passed, unswept, reported, Met}
 use Rattle.compare.specs.Histories.{Moment, History}
 use Rattle.compare.specs.Laws.{IsFair, SameAccounts, Agreed, Fair, AllAgreed, Law}
-use Rattle.compare.proofs.Sizes.{sized_sent, sized_gapped, sized_swept}
+use Rattle.compare.proofs.Sizes.{sized_sent, sized_gapped, sized_fates}
 use Rattle.compare.proofs.Sweeps.{Settled, settled}
 
 -- One call.
@@ -68,7 +68,7 @@ both_settled tags after other_after o p sized e f s t =
           right_slots = t.slots;
         };
       };
-      sized = subst Sized (sym (e ∙ s.tags)) (sized_swept tags sized);
+      sized = subst Sized (sym (e ∙ s.tags)) (sized_fates tags sized);
     }
 
 swept_both : (faithful other : Bool) (set other_set : Setting) (tags after other_after : List Tag) (a b : Account) → Sized tags

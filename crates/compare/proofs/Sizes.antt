@@ -14,8 +14,8 @@ use Rattle.record.specs.Records.{serial_of, is_write_ok, in_state, flagging, mar
 use Rattle.tag.specs.Orders.{Order, select, unselect_ne, unselect_id_flag, unselect_noid_flag, query, scroll, again, reset, read, verify, write, lock, qlock, damaged, unknown, order}
 use Rattle.tag.specs.Steps.{met, if_singulated, if_inventoried, is_chosen, joined, moved, verified, is_writable, is_lockable, is_meant, written, locked, obeyed, stepped}
 use Rattle.field.specs.Sends.{first_coin, stepped_all, gapped_all, is_short, sent_to}
-use Rattle.sweep.specs.Fates.{swept, Sized}
-use Rattle.sweep.proofs.Tags.{serial_of_swept}
+use Rattle.sweep.specs.Fates.{fate_of, Sized}
+use Rattle.sweep.proofs.Tags.{serial_of_fate}
 
 -- A memory of some length.
 abbrev Has : ℕ → Tag → Type 0
@@ -112,7 +112,7 @@ pub sized_gapped : (microseconds : ℕ) (tags : List Tag) → Sized tags → Siz
 sized_gapped microseconds tags h =
     All-from_recursion IsSized _ (each (gapped microseconds) (gapped_one microseconds) tags (recursion_from_All IsSized tags h))
 
-pub sized_swept : (tags : List Tag) → Sized tags → Sized (map swept tags)
-sized_swept tags h =
+pub sized_fates : (tags : List Tag) → Sized tags → Sized (map fate_of tags)
+sized_fates tags h =
     All-from_recursion IsSized _
-    (each swept (λ (t : Tag) (s : IsSized t). ap length (serial_of_swept t) ∙ s) tags (recursion_from_All IsSized tags h))
+    (each fate_of (λ (t : Tag) (s : IsSized t). ap length (serial_of_fate t) ∙ s) tags (recursion_from_All IsSized tags h))

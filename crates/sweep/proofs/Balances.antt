@@ -9,7 +9,7 @@ use Rattle.field.specs.declared.hearing.Hearing.TheVariants.{Silence, Lone, Clas
 use Rattle.field.specs.Airs.{Air, hearing_number}
 use Rattle.slot.specs.declared.row.SlotRow.{SlotRow}
 use Rattle.slot.specs.Rules.{Setting, Phase, fresh, in_silence, in_lone, in_clash, in_reading, Play, Deed, beginning, ended, opens, reads, opened_by, read_by, done, went, played}
-use Rattle.sweep.specs.Tallies.{heard_as, Complete, Completes}
+use Rattle.sweep.specs.Tallies.{heard_as, Balanced, EndsBalanced}
 use Rattle.sweep.proofs.Deeds.{by_deed, holds_played}
 
 -- One slot more.
@@ -31,7 +31,7 @@ Even in_silence p = Balance 0 1 p
 Even (in_lone serial) p = Balance 0 1 p
 Even in_clash p = Balance 1 0 p
 Even (in_reading serial) p = Balance 0 1 p
-Even (ended zero) p = Complete p
+Even (ended zero) p = Balanced p
 Even (ended (suc n)) p = Unit {0}
 
 -- A slot that opens, with the balance of the groups as it is then to be.
@@ -81,8 +81,8 @@ even_on set h p even =
       resting = λ n e now. now;
     }) p.phase even even
 
-pub completes : Completes
-completes set hs tags e =
+pub ends_balanced : EndsBalanced
+ends_balanced set hs tags e =
     let p : Play = played set hs (beginning tags) in
     let first : Balance 0 0 (beginning tags) = record { slots = refl; commands = refl } in
     subst (λ (phase : Phase). Even phase p) e (holds_played set (λ q. Even q.phase q) (even_on set) hs (beginning tags) (refl, first))

@@ -14,8 +14,8 @@ use Rattle.reply.specs.Replies.{sounding}
 use Rattle.field.specs.Airs.{Air, silent, one, many, mixed, voice}
 use Rattle.field.specs.Sends.{first_coin, stepped_all, on_air}
 use Rattle.slot.specs.Commands.{again}
-use Rattle.sweep.specs.Fates.{times, swept}
-use Rattle.sweep.proofs.Tags.{is_active, has_turn, is_left_by, outcome, Fit, Readable, Takes, Opens, not_active, readable, serial_of_outcome, serial_of_swept, again_each}
+use Rattle.sweep.specs.Fates.{times, fate_of}
+use Rattle.sweep.proofs.Tags.{is_active, has_turn, is_left_by, outcome, Fit, Readable, Takes, Opens, not_active, readable, serial_of_outcome, serial_of_fate, again_each}
 
 -- How many of the tags that some test picks have a serial number.
 abbrev pub tally : (Tag → Bool) → List ℕ → List Tag → ℕ
@@ -217,12 +217,12 @@ serials_of_outcomes : (tags : List Tag) → map serial_of (map outcome tags) ≡
 serials_of_outcomes [] = refl
 serials_of_outcomes (t ∷ ts) = ap₂ (λ (s : List ℕ) (rest : List (List ℕ)). s ∷ rest) (serial_of_outcome t) (serials_of_outcomes ts)
 
-serials_of_swept : (tags : List Tag) → map serial_of (map swept tags) ≡ map serial_of tags
-serials_of_swept [] = refl
-serials_of_swept (t ∷ ts) = ap₂ (λ (s : List ℕ) (rest : List (List ℕ)). s ∷ rest) (serial_of_swept t) (serials_of_swept ts)
+serials_of_fates : (tags : List Tag) → map serial_of (map fate_of tags) ≡ map serial_of tags
+serials_of_fates [] = refl
+serials_of_fates (t ∷ ts) = ap₂ (λ (s : List ℕ) (rest : List (List ℕ)). s ∷ rest) (serial_of_fate t) (serials_of_fates ts)
 
-pub same_serials : (tags before : List Tag) → map outcome tags ≡ map swept before → map serial_of tags ≡ map serial_of before
-same_serials tags before e = sym (serials_of_outcomes tags) ∙ ap (map serial_of) e ∙ serials_of_swept before
+pub same_serials : (tags before : List Tag) → map outcome tags ≡ map fate_of before → map serial_of tags ≡ map serial_of before
+same_serials tags before e = sym (serials_of_outcomes tags) ∙ ap (map serial_of) e ∙ serials_of_fates before
 
 abbrev pub AreSized : List (List ℕ) → Type 0
 AreSized serials = AllByRecursion (λ s. length s ≡ 8) serials

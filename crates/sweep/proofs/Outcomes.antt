@@ -17,7 +17,7 @@ use Rattle.sweep.specs.Fates.{due_serials, Sized, Distinct, EachOnce}
 use Rattle.sweep.specs.Steps.{Tallied}
 use Rattle.sweep.specs.Tallies.{heard_as, enough}
 use Rattle.sweep.specs.Whole.{Outcome, Reported, Swept, Complete, Lawful}
-use Rattle.sweep.proofs.Balances.{completes}
+use Rattle.sweep.proofs.Balances.{ends_balanced}
 use Rattle.sweep.proofs.Ends.{settles}
 use Rattle.sweep.proofs.Plays.{fates}
 use Rattle.sweep.proofs.Readings.{reads_once}
@@ -82,7 +82,7 @@ module _ (faithful : Bool) (coins : List ℕ) (budget : ℕ) (first : Lists) (be
             (e ∙ settles set (length q.1.hearings) (end_number report.end) before (ap (λ (p : Play). p.phase) (sym e) ∙ q.2.phase))
             (reported q.0 q.2);
         commands = λ e.
-            let c = completes set q.1.hearings before (r.at_end ∙ ap ended e) in
+            let c = ends_balanced set q.1.hearings before (r.at_end ∙ ap ended e) in
             r.commands ∙ c.commands ∙ ap (λ (n : ℕ). n + (played set q.1.hearings (beginning before)).reads + 1) (ap length (sym r.slots));
       }
 
@@ -91,7 +91,7 @@ module _ (faithful : Bool) (set : Setting) (before : List Tag) (o : Outcome) (si
   whole : end_number o.report.end ≡ 0 → Complete faithful before o
   whole e =
       let p : Play = played set s.hearings (beginning before) in
-      let c = completes set s.hearings before (s.by_rule.at_end ∙ ap ended e) in
+      let c = ends_balanced set s.hearings before (s.by_rule.at_end ∙ ap ended e) in
       let fated = λ (d : Distinct before). fates set s.hearings before sized d s.heard (s.by_rule.at_end ∙ ap ended e) in
       record {
         slots = omega (arith, c.slots, s.by_rule.lone, s.by_rule.silent, s.by_rule.clash);
@@ -100,7 +100,7 @@ module _ (faithful : Bool) (set : Setting) (before : List Tag) (o : Outcome) (si
             let q : Play = replayed set (enough set) (beginning before) in
             let same = replay_played set (enough set) (beginning before) in
             let ended_so : q.phase ≡ ended 0 = r.at_end ∙ ap ended e in
-            let d = completes set same.0 before (ap (λ (x : Play). x.phase) (sym same.1) ∙ ended_so) in
+            let d = ends_balanced set same.0 before (ap (λ (x : Play). x.phase) (sym same.1) ∙ ended_so) in
             let all : q.commands ≡ length q.slots + q.reads + 1 = subst (λ (x : Play). x.commands ≡ length x.slots + x.reads + 1) (sym same.1) d.commands in
             omega (arith, all, r.commands, ap length r.slots, r.lone, reads_once set (enough set) before ended_so);
         tags = λ d. s.by_rule.tags ∙ (fated d).tags;

@@ -15,7 +15,7 @@ use Rattle.field.specs.Airs.{Air, MayHear}
 use Rattle.field.specs.Sends.{stepped_all, on_air}
 use Rattle.slot.specs.Commands.{select, query, scroll, read}
 use Rattle.slot.specs.Rules.{Setting, Phase, fresh, in_silence, in_lone, in_clash, in_reading, ended, Play, beginning, Deed, stops, opens, lists, reads, closes, commanding, opening_slot, coins_at, place_behind, deed_in, air_of, opened_by, read_by, done, went, may_hear, played, Heard}
-use Rattle.sweep.specs.Fates.{is_due, swept, times, due_serials, Distinct, Fated, Fates}
+use Rattle.sweep.specs.Fates.{is_due, fate_of, times, due_serials, Distinct, Fated, Fates}
 use Rattle.sweep.proofs.Frames.{serial_heard}
 use Rattle.sweep.proofs.Tags.{is_active, is_left_by, has_turn, outcome, Fit, Readable, Unheard, Takes, Opens, select_each, query_each, scroll_each, read_each, select_heard, query_heard, scroll_heard}
 use Rattle.sweep.proofs.Crowds.{tally, turns, voices, tally-le, outcomes_after, all_after, active_after, air_after, all_of, tally_same, no_turn, no_turns, closed, none_active, lone, all_readable, apart, same_serials, AreSized, turns_sized, times_push}
@@ -23,14 +23,14 @@ use Rattle.sweep.proofs.Crowds.{tally, turns, voices, tally-le, outcomes_after, 
 -- A sweep that goes on: what becomes of the tags is settled, each turn comes within the groups that wait, and what is
 -- due is listed or still active.
 pub record Between (before : List Tag) (waiting : ℕ) (serials : List (List ℕ)) (tags : List Tag) : Type 0 where
-  pub outcomes : map outcome tags ≡ map swept before
+  pub outcomes : map outcome tags ≡ map fate_of before
   pub fits : AllByRecursion (Fit waiting) tags
   pub counts : (serial : List ℕ) → times serial serials + tally is_active serial tags ≡ times serial (due_serials before)
 
 -- The same while a READ is not heard yet: its tag is listed, and counts no more.
 pub record Reading (before : List Tag) (waiting : ℕ) (serials : List (List ℕ)) (lone_one : List ℕ) (tags : List Tag) : Type 0 where
   pub size : length lone_one ≡ 8
-  pub outcomes : map outcome tags ≡ map swept before
+  pub outcomes : map outcome tags ≡ map fate_of before
   pub ready : AllByRecursion (Readable lone_one waiting) tags
   pub counts : (serial : List ℕ) → times serial serials + tally (is_left_by lone_one) serial tags ≡ times serial (due_serials before)
 
@@ -77,20 +77,20 @@ opened before (s ∷ r ∷ rest) Lone p e m z b = cc
 opened before (s ∷ r ∷ rest) Clash p e m z b = b
 
 module _ (before : List Tag) (sized : AreSized (map serial_of before)) (distinct : Distinct before) where
-  sized_still : (tags : List Tag) → map outcome tags ≡ map swept before → AreSized (map serial_of tags)
+  sized_still : (tags : List Tag) → map outcome tags ≡ map fate_of before → AreSized (map serial_of tags)
   sized_still tags e = subst AreSized (sym (same_serials tags before e)) sized
 
-  distinct_still : (tags : List Tag) → map outcome tags ≡ map swept before → Distinct tags
+  distinct_still : (tags : List Tag) → map outcome tags ≡ map fate_of before → Distinct tags
   distinct_still tags e serial = subst (λ (l : List (List ℕ)). times serial l ≤ 1) (sym (same_serials tags before e)) (distinct serial)
 
   slot : (c : Command) (frame : Opening) (row g next : ℕ) (h : Hearing) (p : Play) (Before : Tag → Type 0) (goal : Tag → Tag) (chosen : Tag → Bool)
-      → Takes (order frame) Before (Fit g) goal chosen → Opens (order frame) → AllByRecursion Before p.tags → map goal p.tags ≡ map swept before
+      → Takes (order frame) Before (Fit g) goal chosen → Opens (order frame) → AllByRecursion Before p.tags → map goal p.tags ≡ map fate_of before
       → ((serial : List ℕ) → times serial p.serials + tally chosen serial p.tags ≡ times serial (due_serials before))
       → StandsAfter before h p (opens c frame row g next)
   slot c frame row g next h p Before goal chosen each heard all goals counts m =
       let after : List Tag = stepped_all frame row p.tags in
       let air : on_air frame row p.tags ≡ voices (turns after) = air_after frame heard row p.tags in
-      let outcomes : map outcome after ≡ map swept before = outcomes_after frame Before (Fit g) goal chosen each row p.tags all ∙ goals in
+      let outcomes : map outcome after ≡ map fate_of before = outcomes_after frame Before (Fit g) goal chosen each row p.tags all ∙ goals in
       let b : Between before g p.serials after =
       record {
         outcomes = outcomes;
@@ -127,7 +127,7 @@ module _ (before : List Tag) (sized : AreSized (map serial_of before)) (distinct
     unheard =
         all_after (read serial) (Readable serial p.waiting) (Unheard serial p.waiting) outcome (is_left_by serial) (read_each serial p.waiting r.size) 0 p.tags r.ready
 
-    read_outcomes : map outcome after_read ≡ map swept before
+    read_outcomes : map outcome after_read ≡ map fate_of before
     read_outcomes =
         outcomes_after (read serial) (Readable serial p.waiting) (Unheard serial p.waiting) outcome (is_left_by serial) (read_each serial p.waiting r.size) 0 p.tags r.ready
         ∙ r.outcomes
@@ -185,7 +185,7 @@ module _ (before : List Tag) (sized : AreSized (map serial_of before)) (distinct
   deed : (set : Setting) (h : Hearing) (p : Play) (phase : Phase) → p.phase ≡ phase → Stands before p phase → StandsAfter before h p (deed_in set p phase)
   deed set h p fresh e k =
       within_room before set h p (opens Select select 0 0 0)
-      (slot Select select 0 0 0 h p (λ t. Unit {0}) swept is_due select_each select_heard (units p.tags) (ap (map swept) k.0)
+      (slot Select select 0 0 0 h p (λ t. Unit {0}) fate_of is_due select_each select_heard (units p.tags) (ap (map fate_of) k.0)
       (λ serial. ap₂ (λ (l : List (List ℕ)) (ts : List Tag). times serial l + tally is_due serial ts) k.1 k.0 ∙ omega arith))
   deed set h p in_silence e k =
       cond_both (eqb p.waiting 0) (commanding set p closes) (opening_slot set p (opens Scroll scroll 0 (p.waiting - 1) p.next)) (StandsAfter before h p)

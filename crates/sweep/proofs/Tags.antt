@@ -13,7 +13,7 @@ use Rattle.tag.specs.Orders as orders
 use Rattle.tag.specs.Orders.{Order, order}
 use Rattle.tag.specs.Steps.{if_singulated, is_chosen, joined, risen, drawn, moved, met, is_meant, obeyed, answered, stepped}
 use Rattle.slot.specs.Commands.{word, select, query, scroll, again, read}
-use Rattle.sweep.specs.Fates.{is_due, swept}
+use Rattle.sweep.specs.Fates.{is_due, fate_of}
 use Rattle.sweep.proofs.Frames.{order-select, order-query, order-scroll, order-again, order-read}
 
 -- It is selected and not read yet.
@@ -165,7 +165,7 @@ module _ (m : List ℕ) (l : List Bool) (i : Bool) (c : ℕ) (k : WriteMark) (p 
   counted_voiced Singulation n = refl
   counted_voiced Inventoried n = refl
 
-select_takes : Takes (orders.select 0x00 0xc0 word) (λ t. Unit {0}) (Fit 0) swept is_due
+select_takes : Takes (orders.select 0x00 0xc0 word) (λ t. Unit {0}) (Fit 0) fate_of is_due
 select_takes =
     record {
       serial = λ coin t. either (λ (u : Tag). serial_of u ≡ serial_of t) (is_chosen t.state (matches t.memory 0x00 0xc0 word)) (joined (met t)) (met t) refl refl;
@@ -272,12 +272,12 @@ readable serial w t fit h =
 pub serial_of_outcome : (t : Tag) → serial_of (outcome t) ≡ serial_of t
 serial_of_outcome t = either (λ (u : Tag). serial_of u ≡ serial_of t) (is_active t) (moved (counting_to 0 t)) t refl refl
 
-pub serial_of_swept : (t : Tag) → serial_of (swept t) ≡ serial_of t
-serial_of_swept t = either (λ (u : Tag). serial_of u ≡ serial_of t) (is_due t) (moved (counting_to 0 t)) t refl refl
+pub serial_of_fate : (t : Tag) → serial_of (fate_of t) ≡ serial_of t
+serial_of_fate t = either (λ (u : Tag). serial_of u ≡ serial_of t) (is_due t) (moved (counting_to 0 t)) t refl refl
 
 -- What a sweep's commands do to each tag.
-pub select_each : Takes (order select) (λ t. Unit {0}) (Fit 0) swept is_due
-select_each = subst (λ (o : Order). Takes o (λ t. Unit {0}) (Fit 0) swept is_due) (sym order-select) select_takes
+pub select_each : Takes (order select) (λ t. Unit {0}) (Fit 0) fate_of is_due
+select_each = subst (λ (o : Order). Takes o (λ t. Unit {0}) (Fit 0) fate_of is_due) (sym order-select) select_takes
 
 pub query_each : (w : ℕ) → Takes (order query) (Fit w) (Fit (w + 1)) outcome is_active
 query_each w = subst (λ (o : Order). Takes o (Fit w) (Fit (w + 1)) outcome is_active) (sym order-query) (query_takes w)

@@ -15,8 +15,8 @@ abbrev pub is_due : Tag → Bool
 is_due t = is_chosen t.state (matches t.memory 0x00 0xc0 word)
 
 -- A tag once a whole sweep is over. One that was due has been read.
-abbrev pub swept : Tag → Tag
-swept t = permitting None (marking Clear (cond (is_due t) (moved (counting_to 0 t)) t))
+abbrev pub fate_of : Tag → Tag
+fate_of t = permitting None (marking Clear (cond (is_due t) (moved (counting_to 0 t)) t))
 
 -- How many times a serial number is listed.
 abbrev pub times : List ℕ → List (List ℕ) → ℕ
@@ -40,7 +40,7 @@ pub record EachOnce (serials dues : List (List ℕ)) : Type 0 where
 
 -- What a whole sweep leaves and reports.
 pub record Fated (before : List Tag) (p : Play) : Type 0 where
-  pub tags : p.tags ≡ map swept before
+  pub tags : p.tags ≡ map fate_of before
   pub serials : EachOnce p.serials (due_serials before)
 
 abbrev pub Fates : Type 0

@@ -22,17 +22,17 @@ pub record Kept (set : Setting) (p : Play) : Type 0 where
   pub full : p.phase ≡ ended 9 → (length p.slots ≡ set.slot_room) ⊎ (length p.serials ≡ set.serial_room)
 
 -- A whole sweep. Each clash adds a group, and each lone or silent slot takes one away.
-pub record Complete (p : Play) : Type 0 where
+pub record Balanced (p : Play) : Type 0 where
   pub commands : p.commands ≡ length p.slots + p.reads + 1
   pub slots : heard_as Lone p.slots + heard_as Silence p.slots ≡ heard_as Clash p.slots + 1
 
 abbrev pub Keeps : Type 0
 Keeps = (set : Setting) (hs : List Hearing) (tags : List Tag) → Kept set (played set hs (beginning tags))
 
-abbrev pub Completes : Type 0
-Completes =
+abbrev pub EndsBalanced : Type 0
+EndsBalanced =
     (set : Setting) (hs : List Hearing) (tags : List Tag) → (played set hs (beginning tags)).phase ≡ ended 0
-    → Complete (played set hs (beginning tags))
+    → Balanced (played set hs (beginning tags))
 
 -- So many deeds are enough for every sweep, since each is a command, a listing or the last.
 abbrev pub enough : Setting → ℕ

@@ -9,7 +9,7 @@ use Rattle.slot.specs.declared.row.SlotRow.{SlotRow}
 use Rattle.slot.specs.declared.ending.Report.{Report}
 use Rattle.slot.specs.Countings.{end_number}
 use Rattle.slot.specs.Rules.{Setting, Play, beginning, ended, played, Heard, replayed}
-use Rattle.sweep.specs.Fates.{swept, due_serials, Distinct, EachOnce}
+use Rattle.sweep.specs.Fates.{fate_of, due_serials, Distinct, EachOnce}
 use Rattle.sweep.specs.Tallies.{heard_as, enough}
 
 -- What a sweep has reported, and the tags that it has left.
@@ -47,7 +47,7 @@ pub record Complete (faithful : Bool) (before : List Tag) (o : Outcome) : Type 0
   -- where lone replies are heard as lone, the commands are the slots, one READ for each lone one, and one
   pub commands : faithful ≡ true → o.report.counts.commands ≡ length o.slots + o.report.counts.lone + 1
   -- what is left and reported hangs on no coin and on no hearing, where no serial number is there twice
-  pub tags : Distinct before → o.tags ≡ map swept before
+  pub tags : Distinct before → o.tags ≡ map fate_of before
   pub serials : Distinct before → EachOnce o.serials (due_serials before)
 
 -- What holds of every sweep.
