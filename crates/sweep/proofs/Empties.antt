@@ -2,17 +2,15 @@
 use Rattle.std.proofs.Common.{◌≡◌, ℕ, List, [], ◌∷◌, sym, refl, ap, ◌∙◌, subst, arith}
 use Rattle.protocol.specs.declared.command.Command.TheVariants.{Select}
 use Rattle.field.specs.declared.hearing.Hearing.{Hearing}
-use Rattle.field.specs.declared.hearing.Hearing.TheVariants.{Silence, Lone, Clash}
+use Rattle.field.specs.declared.hearing.Hearing.TheVariants.{Silence}
 use Rattle.field.specs.Sends.{stepped_all, on_air}
-use Rattle.slot.specs.declared.counts.Counts.{Counts}
 use Rattle.slot.specs.declared.ending.End.{End}
 use Rattle.slot.specs.declared.ending.End.TheVariants.{Whole, Stopped}
-use Rattle.slot.specs.declared.ending.Stop.{Stop}
 use Rattle.slot.specs.declared.ending.Stop.TheVariants.{Deep, Spent, Full}
 use Rattle.slot.specs.Countings.{end_number}
 use Rattle.slot.specs.Rules.{Setting, Phase, fresh, in_silence, in_lone, in_clash, in_reading, ended, Play, beginning, went, may_hear, played, Heard}
 use Rattle.sweep.specs.Cases.{EmptySweeps}
-use Rattle.sweep.specs.Whole.{Outcome, Reported, Swept}
+use Rattle.sweep.specs.Whole.{Reported}
 
 abbrev small : Setting
 small = record { coins = 2 ∷ []; budget = 2; slot_room = 1; serial_room = 0 }

@@ -1,5 +1,5 @@
 -- A sweep of no tags, as a proposition over one listing. Assumes nothing.
-use Rattle.std.specs.Prelude.{◌≡◌, ℕ, Bool, [], ◌∷◌}
+use Rattle.std.specs.Prelude.{◌≡◌, Bool, [], ◌∷◌}
 use Rattle.std.specs.List.{AllByRecursion}
 use Rattle.protocol.specs.declared.command.Command.TheVariants.{Select}
 use Rattle.field.specs.declared.hearing.Hearing.TheVariants.{Silence}
