@@ -4,6 +4,7 @@ pub mod Deeds
 pub mod Empties
 pub mod Ends
 pub mod Frames
+pub mod Listed
 pub mod Outcomes
 pub mod Plays
 pub mod Readings

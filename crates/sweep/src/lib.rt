@@ -6,6 +6,7 @@ ghost use Rattle.rows.specs.Filling.{rows_of};
 ghost use Rattle.slot.specs.Going.{setting, BothBehind, is_recorded};
 ghost use Rattle.slot.specs.Sendings.{Sent};
 ghost use Rattle.sweep.specs.Cases.{EmptySweeps};
+ghost use Rattle.sweep.specs.Listings.{SweepCases, WorkedFates};
 ghost use Rattle.sweep.specs.Whole.{Outcome, Swept, Lawful, refused_by};
 
 pub mod measuring;
@@ -21,7 +22,7 @@ use slot::working::MOST_ROWS;
 use working::work;
 
 // Sweeps a field: splits each clash and reads each lone tag, until the sweep is whole or stopped.
-#[tactic(auto, using(crate::proofs::Empties::empty_sweeps))]
+#[tactic(auto, using(crate::proofs::Empties::empty_sweeps, crate::proofs::Listed::sweep_cases, crate::proofs::Listed::worked_fates))]
 pub fn sweep<F: Field>(
     field: &mut F,
     coins: &[u64],
@@ -35,6 +36,8 @@ pub fn sweep<F: Field>(
     ensures behind { BothBehind lists.old lists.new }
     ensures sends { IfOk result (λ r. Sent F.hears 0 r.counts.commands field.old field.new) }
     ensures empty { EmptySweeps }
+    ensures worked { SweepCases }
+    ensures fates { WorkedFates }
 {
     if coins.is_empty() || coins.len() > MOST_ROWS {
         return Err(Refusal::Coins);

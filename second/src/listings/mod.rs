@@ -12,11 +12,12 @@ mod protocol;
 mod record;
 mod reply;
 mod sheet;
+mod sweep;
 mod tag;
 mod term;
 
 /// Each crate that has such a file, with the file.
-pub fn files() -> [(&'static str, String); 11] {
+pub fn files() -> [(&'static str, String); 12] {
     [
         ("bench", bench::file()),
         ("crc", crc::file()),
@@ -28,6 +29,7 @@ pub fn files() -> [(&'static str, String); 11] {
         ("record", record::file()),
         ("reply", reply::file()),
         ("sheet", sheet::file()),
+        ("sweep", sweep::file()),
         ("tag", tag::file()),
     ]
 }
