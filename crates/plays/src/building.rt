@@ -1,5 +1,5 @@
 // A field, built as words say: `bench N`, `single`, `pair LEFT RIGHT`, `spoiler K BELOW`.
-ghost use Rattle.std.specs.Prelude.{◌≡◌, ◌++◌, length, IfOk};
+ghost use Rattle.std.specs.Prelude.{◌≡◌, ◌<◌, [], ◌++◌, length, IfOk, OnErr};
 ghost use Rattle.plays.specs.Builds.{parts_tags};
 ghost use Rattle.plays.specs.Nestings.{leaf_tags, node_tags};
 
@@ -71,6 +71,7 @@ impl<'w, 'a> Source<'w, 'a> {
     fn table(&mut self, places: usize) -> anyhow::Result<&'a mut [Tag]>
         ensures tags { IfOk result (λ front. self.old.tags.now ≡ front.now ++ self.new.tags.now) }
         ensures places { IfOk result (λ front. length front.now ≡ places) }
+        ensures short { OnErr result (length self.old.tags.now < places) }
     {
         let tags = mem::replace(&mut self.tags, &mut []);
         let (front, rest) = tags.split_at_mut_checked(places).context("too few tags")?;
@@ -125,7 +126,8 @@ fn bench_leaf<'a>(source: &mut Source<'_, 'a>) -> Result<Leaf<'a>, Trouble>
 }
 
 fn single_leaf<'a>(source: &mut Source<'_, 'a>) -> Result<Leaf<'a>, Trouble>
-    ensures { IfOk result (λ leaf. source.old.tags.now ≡ leaf_tags leaf ++ source.new.tags.now) }
+    ensures tags { IfOk result (λ leaf. source.old.tags.now ≡ leaf_tags leaf ++ source.new.tags.now) }
+    ensures short { OnErr result (source.old.tags.now ≡ []) }
 {
     let tag = source.table(1)?.first().context("too few tags")?;
     Ok(Leaf::Lone(Single::new(*tag)))

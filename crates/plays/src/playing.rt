@@ -1,5 +1,8 @@
 // Plays, line by line: `tag STATE FLAG COUNTER MARK PERMISSION LOCKS MEMORY` and `find SERIAL` about a table, then `field
 // NESTING` over it, then questions to that field, then `end`.
+ghost use Rattle.std.specs.Prelude.{◌≡◌, [], ◌∷◌, ◌++◌, IfOk};
+ghost use Rattle.record.specs.declared.Tag.{Tag};
+
 use crate::asking::{Asked, Sending};
 use crate::building::{Build, Trouble, built};
 use crate::nesting::Below;
@@ -66,7 +69,9 @@ impl<R: Print + AllocGlobal> Stage<'_, R> {
         }
     }
 
-    fn add(&mut self, text: &str) -> anyhow::Result<()> {
+    fn add(&mut self, text: &str) -> anyhow::Result<()>
+        ensures { IfOk result (λ _. (tag : Tag) × (self.new.table.items ≡ self.old.table.items ++ tag ∷ [])) }
+    {
         self.table.push(read_tag(self.rt.alloc(), text)?)?;
         println!(self.rt; "{}", self.table.len())?;
         Ok(())
