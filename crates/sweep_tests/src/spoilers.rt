@@ -51,9 +51,10 @@ fn before_a_repeated_read(rt: HostRuntime) -> Result<(), Fail> {
 // A tag that is never heard alone is never read.
 #[test]
 fn of_each_reply(rt: HostRuntime) -> Result<(), Fail> {
+    let slots = wait_and_clash();
     let wanted = Wanted {
         outcome: (8, [0, 50, 50, 100]),
-        slots: &wait_and_clash()[..100],
+        slots: slots.get(..100).ok_or("too many slots")?,
         serials: &[],
     };
     let given = Given {
