@@ -85,7 +85,7 @@ static int open_text(const char *text, size_t letters)
     uint8_t shown[NOLBASHI_SHOWN] = {0};
 
     if (frame == NULL) {
-        fputs("not bytes in hexadecimal\n", stderr);
+        fprintf(stderr, "not bytes in hexadecimal, two digits for each: %.*s\n", letters < 60 ? (int)letters : 60, text);
         return 1;
     }
     uint16_t value = nolbashi_check_value(frame, length >= 2 ? length - 2 : 0);
