@@ -6,6 +6,11 @@ rounds=9
 work=$(mktemp -d)
 trap 'rm -rf "$work"' EXIT
 
+# Stops where a word is no number.
+number() { # WORD
+    [[ $1 =~ ^[0-9]+$ ]] || { echo "no number: $1" >&2; exit 2; }
+}
+
 # Builds the second implementation, and a program on the proved library, as LLVM makes it.
 build() { # CRATE ARGUMENT..
     local crate=$1
