@@ -1,8 +1,10 @@
 -- What the words of a question spell. Assumes nothing.
-use Rattle.std.specs.Prelude.{◌≡◌, ℕ, ◌==◌, Bool, List, length}
+use Rattle.std.specs.Prelude.{◌≡◌, ℕ, ◌==◌, Bool, ◌⊎◌, List, length, codes}
 use Rattle.std.specs.Int.{w64, from_be_bytes}
 use Rattle.std.specs.List.{before_first, after_first, position_or_len}
 use Rattle.std.specs.Str.Parse.{IsNumeral, digits_value, without_leading_plus}
+use Rattle.record.specs.declared.Tag.{Tag}
+use Rattle.field.specs.Sends.{sent_to, gapped_all}
 use Rattle.spelling.specs.Hexadecimal.{SpellsArray, SpellsBytes}
 
 abbrev pub is_space : ℕ → Bool
@@ -31,3 +33,21 @@ SpellsNumber text n = IsNumeral 10 (without_leading_plus text) × (n ≡ digits_
 abbrev pub SpellsSending : List ℕ → ℕ → ℕ → List ℕ → Type 0
 SpellsSending text row room frame =
     SpellsRow (first_word text) row × SpellsNumber (first_word (behind_first text)) room × SpellsBytes (behind_first (behind_first text)) frame
+
+-- The tags of a field before and after a send that a text spells.
+pub record Sends (text : List ℕ) (before after : List Tag) : Type 0 where
+  pub row : ℕ
+  pub room : ℕ
+  pub frame : List ℕ
+  pub spelt : SpellsSending text row room frame
+  pub tags : after ≡ sent_to room frame row before
+
+-- And before and after a gap that a text spells.
+pub record Passes (text : List ℕ) (before after : List Tag) : Type 0 where
+  pub microseconds : ℕ
+  pub spelt : SpellsNumber text microseconds
+  pub tags : after ≡ gapped_all microseconds before
+
+-- A question to a field is a send or a gap.
+abbrev pub Asks : (verb rest : List ℕ) → List Tag → List Tag → Type 0
+Asks verb rest before after = ((verb ≡ codes "send") × Sends rest before after) ⊎ ((verb ≡ codes "gap") × Passes rest before after)

@@ -2,6 +2,7 @@
 // NESTING` over it, then questions to that field, then `end`.
 ghost use Rattle.std.specs.Prelude.{◌≡◌, [], ◌∷◌, ◌++◌, IfOk};
 ghost use Rattle.record.specs.declared.Tag.{Tag};
+ghost use Rattle.plays.specs.Questions.{Sends, Passes, Asks};
 
 use crate::asking::{Asked, Sending};
 use crate::building::{Build, Trouble, built};
@@ -29,22 +30,39 @@ pub trait Answer: Drop {
     ) -> anyhow::Result<()>;
 }
 
-// The answer to a send or a gap.
+// The answer to a send or a gap. Where there is none, nothing is said of the field: its answer may have gone unprinted.
 pub fn answer_call<R: Print + AllocGlobal, F: Field>(
     rt: &R,
     asked: &mut Asked<F>,
     verb: &str,
     rest: &str,
-) -> anyhow::Result<()> {
+) -> anyhow::Result<()>
+    ensures { IfOk result (λ _. Asks verb.now rest.now (F.Field.tags asked.old.field) (F.Field.tags asked.new.field)) }
+{
     // A match and no table of closures, since each verb has words of its own.
     match verb {
-        "send" => {
-            let sending = Sending::read(rt.alloc(), rest)?;
-            println!(rt; "{}", asked.send(&sending))?;
-        }
-        "gap" => println!(rt; "gap {}", asked.pass(rest.parse::<u32>()?))?,
+        "send" => answer_send(rt, asked, rest),
+        "gap" => answer_gap(rt, asked, rest),
         _ => bail!("no question to a field, as `send ROW ROOM FRAME` is"),
     }
+}
+
+fn answer_send<R: Print + AllocGlobal, F: Field>(
+    rt: &R,
+    asked: &mut Asked<F>,
+    text: &str,
+) -> anyhow::Result<()>
+    ensures { IfOk result (λ _. Sends text.now (F.Field.tags asked.old.field) (F.Field.tags asked.new.field)) }
+{
+    let sending = Sending::read(rt.alloc(), text)?;
+    println!(rt; "{}", asked.send(&sending))?;
+    Ok(())
+}
+
+fn answer_gap<R: Print, F: Field>(rt: &R, asked: &mut Asked<F>, text: &str) -> anyhow::Result<()>
+    ensures { IfOk result (λ _. Passes text.now (F.Field.tags asked.old.field) (F.Field.tags asked.new.field)) }
+{
+    println!(rt; "gap {}", asked.pass(text.parse::<u32>()?))?;
     Ok(())
 }
 
