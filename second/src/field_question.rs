@@ -137,6 +137,15 @@ impl Question {
             Question::End => play.end(),
         }
     }
+
+    /// How many fingerprints end its answer at most: a field that is refused has none.
+    pub fn fingerprints(&self) -> usize {
+        match self {
+            Question::Field(_) | Question::Gap(_) => 1,
+            Question::Send { .. } => 2,
+            Question::Tag { .. } | Question::Find(_) | Question::End => 0,
+        }
+    }
 }
 
 impl fmt::Display for Question {

@@ -1,5 +1,6 @@
 //! Writes questions about the chip and the answers expected to them.
 
+mod by_hand;
 mod cases;
 mod crc;
 mod field;
@@ -17,6 +18,7 @@ mod nesting;
 mod order;
 mod question;
 mod random;
+mod reading;
 mod sheet;
 mod speed;
 mod sweep;
@@ -154,7 +156,7 @@ fn understand(words: &[OsString]) -> Option<Job> {
 fn run(job: &Job) -> Result<(), String> {
     let mut questions = String::new();
     let mut answers = String::new();
-    for (question, answer) in lines(job) {
+    for (question, answer) in lines(job)? {
         questions += &format!("{question}\n");
         answers += &format!("{answer}\n");
     }
@@ -162,26 +164,40 @@ fn run(job: &Job) -> Result<(), String> {
     save(&job.output, &answers)
 }
 
-/// Each question with its answer.
-fn lines(job: &Job) -> Vec<(String, String)> {
-    match job.subject {
-        Subject::Frames => cases::all(job.seed)
-            .iter()
-            .map(|question| (question.to_string(), question.answer()))
-            .collect(),
-        Subject::Tags => tag_cases::all(job.seed)
-            .into_iter()
-            .map(|asked| (asked.question.to_string(), asked.answer))
-            .collect(),
-        Subject::Fields => field_cases::all(job.seed)
-            .into_iter()
-            .map(|asked| (asked.question.to_string(), asked.answer))
-            .collect(),
-        Subject::Sweeps => sweep_cases::all(job.seed)
-            .into_iter()
-            .map(|asked| (asked.question.to_string(), asked.answer))
-            .collect(),
-    }
+/// Each question with its answer: those of the seed, and then those that are answered by hand.
+fn lines(job: &Job) -> Result<Vec<(String, String)>, String> {
+    let (mut lines, by_hand): (Vec<(String, String)>, _) = match job.subject {
+        Subject::Frames => (
+            cases::all(job.seed)
+                .iter()
+                .map(|question| (question.to_string(), question.answer()))
+                .collect(),
+            by_hand::frames()?,
+        ),
+        Subject::Tags => (
+            tag_cases::all(job.seed)
+                .into_iter()
+                .map(|asked| (asked.question.to_string(), asked.answer))
+                .collect(),
+            by_hand::tags()?,
+        ),
+        Subject::Fields => (
+            field_cases::all(job.seed)
+                .into_iter()
+                .map(|asked| (asked.question.to_string(), asked.answer))
+                .collect(),
+            by_hand::fields()?,
+        ),
+        Subject::Sweeps => (
+            sweep_cases::all(job.seed)
+                .into_iter()
+                .map(|asked| (asked.question.to_string(), asked.answer))
+                .collect(),
+            Vec::new(),
+        ),
+    };
+    lines.extend(by_hand);
+    Ok(lines)
 }
 
 fn write_listings(folder: &Path) -> Result<(), String> {
@@ -214,7 +230,7 @@ mod tests {
     fn first_question(line: &str) -> String {
         let words: Vec<OsString> = line.split_whitespace().map(OsString::from).collect();
         let job = understand(&words).expect("the arguments are right");
-        lines(&job)[0].0.clone()
+        lines(&job).expect("the pages are right")[0].0.clone()
     }
 
     #[test]
@@ -222,7 +238,7 @@ mod tests {
         let first = |line: &str| {
             let words: Vec<OsString> = line.split_whitespace().map(OsString::from).collect();
             let job = understand(&words).expect("the arguments are right");
-            lines(&job)[0].0.clone()
+            lines(&job).expect("the pages are right")[0].0.clone()
         };
         assert!(first("frames 1 q a").starts_with("check "));
         assert!(first("tags 1 q a").starts_with("step "));

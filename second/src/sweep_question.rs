@@ -116,6 +116,14 @@ impl Question {
             Question::Sweep(plan) => play.stores.sweep(plan, &mut play.field),
         }
     }
+
+    /// How many fingerprints end its answer.
+    pub fn fingerprints(&self) -> usize {
+        match self {
+            Question::Field(question) => question.fingerprints(),
+            Question::Sweep(_) => 3,
+        }
+    }
 }
 
 impl fmt::Display for Question {
