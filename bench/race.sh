@@ -11,12 +11,10 @@ number() { # WORD
     [[ $1 =~ ^[0-9]+$ ]] || { echo "no number: $1" >&2; exit 2; }
 }
 
-# Builds the second implementation, and a program on the proved library, as LLVM makes it.
-build() { # CRATE ARGUMENT..
-    local crate=$1
-    shift
+# Builds the second implementation, and the program on the proved library, as LLVM makes it.
+build() { # ARGUMENT..
     cargo build --release --offline --quiet --manifest-path second/Cargo.toml
-    (cd "crates/$crate" && rt run -- "$@") > "$work/log" 2>&1 || { tail -n 20 "$work/log"; exit 1; }
+    (cd crates/speed && rt run -- "$@") > "$work/log" 2>&1 || { tail -n 20 "$work/log"; exit 1; }
 }
 
 # Runs one of the two, keeps its line, and adds its seconds of processor time to its list. Other work on the machine

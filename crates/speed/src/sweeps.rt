@@ -1,20 +1,14 @@
-// Many whole sweeps of a full bench, for a clock outside to time: `SWEEPS`. Each sweep is of 64 new tags, by a list of 64
-// random rows of its own. The second implementation does the same and prints the same line.
-#![tactic(auto)]
-
-mod random;
-mod total;
-
+// Many whole sweeps of a full bench. Each is of 64 new tags, by a list of 64 random rows of its own.
 use crate::random::Random;
 use crate::total::Total;
-use anyhow::{Context, bail};
+use anyhow::Context;
 use bench::bench::Bench;
 use rows::list::Rows;
 use slot::ending::Report;
 use slot::lists::Lists;
 use slot::row::{BLANK, Serial, SlotRow};
 use spelling::sample::numbered_tag;
-use std::{array, env};
+use std::array;
 use sweep::sweep;
 
 // What the generator begins with.
@@ -48,7 +42,7 @@ fn sweep_new(coins: &[u64], storage: &mut Storage) -> anyhow::Result<Report> {
 }
 
 // Sweeps so many times, each time by the next 64 words of the generator.
-fn run(sweeps: usize) -> anyhow::Result<Total> {
+pub(crate) fn run(sweeps: usize) -> anyhow::Result<Total> {
     let mut random = Random::new(SEED);
     let mut storage = Storage {
         slots: [BLANK; SLOTS],
@@ -60,14 +54,4 @@ fn run(sweeps: usize) -> anyhow::Result<Total> {
         total.take(sweep_new(&coins, &mut storage)?);
     }
     Ok(total)
-}
-
-fn main(rt: HostRuntime) -> anyhow::Result<()> {
-    let words: Vec<String> = env::args(&rt)?.collect(rt.alloc())?;
-    let [_, sweeps] = words.as_slice() else {
-        bail!("sweep_speed SWEEPS");
-    };
-    let total = run(sweeps.as_str().parse::<usize>()?)?;
-    println!(rt; "{total}")?;
-    Ok(())
 }

@@ -1,10 +1,8 @@
 // What is sent.
-use anyhow::bail;
 use protocol::command::Command;
 use spelling::sample::numbered_serial;
 use spelling::sent::framed;
 use std::alloc::Global;
-use std::str::FromStr;
 
 #[derive(Clone, Copy)]
 pub(crate) enum Load {
@@ -12,18 +10,6 @@ pub(crate) enum Load {
     Query,
     // The READ of one tag after the other.
     Read,
-}
-
-impl FromStr for Load {
-    type Err = anyhow::Error;
-
-    fn from_str(text: &str) -> anyhow::Result<Load> {
-        match text {
-            "query" => Ok(Load::Query),
-            "read" => Ok(Load::Read),
-            _ => bail!("query or read"),
-        }
-    }
 }
 
 impl Load {
