@@ -7,7 +7,7 @@
 
 use std::fmt::Display;
 
-use crate::tag::{Tag, MEMORY_LENGTH};
+use crate::tag::Tag;
 use crate::{question, reading, sweep_question, tag_question};
 
 const FRAMES: &str = include_str!("../by-hand/frames.txt");
@@ -86,8 +86,9 @@ pub fn frames() -> Result<Vec<(String, String)>, String> {
     asked("frames.txt", FRAMES, Frames)
 }
 
-pub fn tags() -> Result<Vec<(String, String)>, String> {
-    asked("tags.txt", TAGS, Tag::new([0; MEMORY_LENGTH]))
+/// Asked of the tag that is there.
+pub fn tags(tag: Tag) -> Result<Vec<(String, String)>, String> {
+    asked("tags.txt", TAGS, tag)
 }
 
 pub fn fields() -> Result<Vec<(String, String)>, String> {
@@ -178,16 +179,31 @@ fn agree(told: &[&str], found: &[String]) -> Result<(), String> {
 #[cfg(test)]
 mod tests {
     use super::*;
+    use crate::tag::{Locks, MEMORY_LENGTH};
+
+    fn new_tag() -> Tag {
+        Tag::new([0; MEMORY_LENGTH])
+    }
 
     fn of_tags(page: &str) -> Result<Vec<(String, String)>, String> {
-        asked("page", page, Tag::new([0; MEMORY_LENGTH]))
+        asked("page", page, new_tag())
     }
 
     #[test]
     fn every_page_is_answered_as_it_says() {
-        for page in [frames(), tags(), fields()] {
+        for page in [frames(), tags(new_tag()), fields()] {
             assert!(page.expect("the answers are those of the page").len() > 1);
         }
+    }
+
+    #[test]
+    fn the_tag_that_is_there_is_asked() {
+        let bare = Tag {
+            locks: Locks([0; 7]),
+            ..new_tag()
+        };
+        let lines = tags(bare).expect("the answers are those of the page");
+        assert!(lines[0].1.ends_with(" C0000000000000 -"), "{}", lines[0].1);
     }
 
     #[test]

@@ -174,13 +174,16 @@ fn lines(job: &Job) -> Result<Vec<(String, String)>, String> {
                 .collect(),
             by_hand::frames()?,
         ),
-        Subject::Tags => (
-            tag_cases::all(job.seed)
-                .into_iter()
-                .map(|asked| (asked.question.to_string(), asked.answer))
-                .collect(),
-            by_hand::tags()?,
-        ),
+        Subject::Tags => {
+            let asker = tag_cases::asker(job.seed);
+            let lines = asker.asked.into_iter();
+            (
+                lines
+                    .map(|asked| (asked.question.to_string(), asked.answer))
+                    .collect(),
+                by_hand::tags(asker.tag)?,
+            )
+        }
         Subject::Fields => (
             field_cases::all(job.seed)
                 .into_iter()

@@ -177,7 +177,7 @@ mod tests {
             let line = question.to_string();
             assert_eq!(of_frames(&line).map(|read| read.to_string()), Some(line));
         }
-        for asked in tag_cases::all(1) {
+        for asked in tag_cases::asker(1).asked {
             let line = asked.question.to_string();
             assert_eq!(of_tags(&line).map(|read| read.to_string()), Some(line));
         }

@@ -4,7 +4,7 @@ use crate::cases::UNKNOWN_CODES;
 use crate::frame::{sealed_with, Name, COMMANDS};
 use crate::order::{Serial, BLOCK_LENGTH, SERIAL_LENGTH, WORD_LENGTH};
 use crate::tag::{State, MEMORY_LENGTH};
-use crate::tag_asker::{Asked, Asker, ACCESSES, ALL_LOCKS, NEW_LOCKS, NO_LOCKS, STATES};
+use crate::tag_asker::{Asker, ACCESSES, ALL_LOCKS, NEW_LOCKS, NO_LOCKS, STATES};
 use crate::tag_question::Condition;
 
 pub const GAPS: [u32; 9] = [
@@ -40,8 +40,8 @@ const PERMISSIONS: [Permission; 4] = [
     Permission::Beyond,
 ];
 
-/// All questions with their answers; the same seed gives the same ones.
-pub fn all(seed: u64) -> Vec<Asked> {
+/// Who has asked all questions, with the answers and the tag that is then there; the same seed gives the same ones.
+pub fn asker(seed: u64) -> Asker {
     let mut asker = Asker::new(seed);
     asker.first_tag();
     asker.arbitration();
@@ -55,7 +55,7 @@ pub fn all(seed: u64) -> Vec<Asked> {
     asker.damaged_frames();
     asker.gaps();
     asker.lives();
-    asker.asked
+    asker
 }
 
 /// Every command in every state.
@@ -409,6 +409,7 @@ mod tests {
     use crate::frame::{self, Refusal};
     use crate::order::{selects, Access, Comparison, Order};
     use crate::tag::Tag;
+    use crate::tag_asker::Asked;
     use crate::tag_question::Question;
 
     /// A step as it was asked for, with the tag as it was before and after.
@@ -450,7 +451,7 @@ mod tests {
         let mut tag = Tag::new([0; MEMORY_LENGTH]);
         let mut steps = Vec::new();
         let mut follows = false;
-        for Asked { question, answer } in all(seed) {
+        for Asked { question, answer } in asker(seed).asked {
             let before = tag.clone();
             assert_eq!(question.answer(&mut tag), answer);
             let Question::Step { coin, frame } = question else {
@@ -483,7 +484,7 @@ mod tests {
     #[test]
     fn the_seed_settles_everything() {
         let text = |seed| -> Vec<(String, String)> {
-            let asked = all(seed).into_iter();
+            let asked = asker(seed).asked.into_iter();
             asked
                 .map(|asked| (asked.question.to_string(), asked.answer))
                 .collect()
@@ -495,7 +496,7 @@ mod tests {
     #[test]
     fn neither_too_few_nor_too_much() {
         for seed in 1..=5 {
-            let asked = all(seed);
+            let asked = asker(seed).asked;
             let length = |asked: &Asked| asked.question.to_string().len() + asked.answer.len() + 2;
             let size: usize = asked.iter().map(length).sum();
             let steps = asked
@@ -764,7 +765,7 @@ mod tests {
     fn every_gap_comes_in_every_state() {
         let mut tag = Tag::new([0; MEMORY_LENGTH]);
         let mut seen = HashSet::new();
-        for Asked { question, .. } in all(17) {
+        for Asked { question, .. } in asker(17).asked {
             if let Question::Gap(microseconds) = question {
                 seen.insert((microseconds, tag.state, tag.id_flag));
             }
