@@ -3,7 +3,7 @@
 //!
 //! On a page `#` begins a line of comment. A question may be followed by lines `= ANSWER`, one for each line of its answer
 //! without the fingerprints at its end, and, where there is a field, by lines `~ TAG`, one for each place of the field, in
-//! the words of the question `tag`.
+//! the words of the question `tag`. Of a long answer the first lines may be told by `=` and the last ones by `=..`.
 
 use std::fmt::Display;
 
@@ -100,7 +100,23 @@ struct Entry<'a> {
     line: usize,
     question: &'a str,
     answer: Vec<&'a str>,
+    /// The answer's last lines, where some before them are left out.
+    ending: Vec<&'a str>,
     tags: Vec<&'a str>,
+}
+
+impl Entry<'_> {
+    /// Whether this answer, without its fingerprints, is as the page says.
+    fn answered(&self, found: &[String]) -> Result<(), String> {
+        if self.ending.is_empty() {
+            return agree(&self.answer, found);
+        }
+        let last = found.len().checked_sub(self.ending.len());
+        let last = last.filter(|&last| last >= self.answer.len());
+        let (front, ending) = found.split_at(last.ok_or("its answer is shorter")?);
+        agree(&self.answer, &front[..self.answer.len()])?;
+        agree(&self.ending, ending)
+    }
 }
 
 /// The questions of a page in their order.
@@ -110,25 +126,31 @@ fn entries(page: &str) -> Result<Vec<Entry<'_>>, String> {
         if text.is_empty() || text.starts_with('#') {
             continue;
         }
-        let told = text.strip_prefix("= ").or(text.strip_prefix("~ "));
-        let Some(told) = told else {
+        let Some((mark, told)) = told(text) else {
             entries.push(Entry {
                 line: number,
                 question: text,
                 answer: Vec::new(),
+                ending: Vec::new(),
                 tags: Vec::new(),
             });
             continue;
         };
         let asked = entries.last_mut();
         let entry = asked.ok_or(format!("line {number}: nothing is asked"))?;
-        if text.starts_with('=') {
-            entry.answer.push(told);
-        } else {
-            entry.tags.push(told);
+        match mark {
+            "=" => entry.answer.push(told),
+            "=.." => entry.ending.push(told),
+            _ => entry.tags.push(told),
         }
     }
     Ok(entries)
+}
+
+/// The mark of a line that tells what comes of a question, and what it tells.
+fn told(line: &str) -> Option<(&str, &str)> {
+    let (mark, told) = line.split_once(' ')?;
+    ["=", "=..", "~"].contains(&mark).then_some((mark, told))
 }
 
 /// The questions of a page with the answers to them, which must be those of the page.
@@ -145,7 +167,8 @@ fn asked<S: Subject>(
             return Err(at(format!("it is written {question}")));
         }
         let answer = subject.answer(&question);
-        agree(&entry.answer, &without(&answer, S::fingerprints(&question))).map_err(at)?;
+        let found = without(&answer, S::fingerprints(&question));
+        entry.answered(&found).map_err(at)?;
         agree(&entry.tags, &subject.tags()).map_err(at)?;
         lines.push((entry.question.to_string(), answer));
     }
@@ -232,6 +255,36 @@ mod tests {
         assert_eq!(without(answer, 2), ["a b", "c"]);
         assert_eq!(without(answer, 1), ["a b", "c 0123456789ABCDEF"]);
         assert_eq!(without("refused 6", 1), ["refused 6"]);
+    }
+
+    #[test]
+    fn the_end_of_an_answer() {
+        let page = |told: &str| {
+            let tag = "tag READY 0 00 0 - C0000000000000 EF04";
+            let text = format!("{tag}\nfield single\nsweep 9 9 9 0000000000000000\n{told}");
+            asked("page", &text, sweep_question::Play::new())
+        };
+        let slot = "= \x20    1     0     1     0\n";
+        let number = "=..  239   4   0   0   0   0   0   0\n";
+        let sums = "=.. \x20    0     1     0     0     3\n";
+        for told in [
+            "=.. swept".to_string(),
+            format!("{sums}=.. swept"),
+            format!("{number}{sums}=.. swept"),
+            format!("{slot}=.. swept"),
+            format!("{slot}{number}{sums}=.. swept"),
+        ] {
+            assert!(page(&told).is_ok(), "{told}");
+        }
+        for told in [
+            sums.to_string(),
+            format!("{number}=.. swept"),
+            format!("{slot}{slot}{number}{sums}=.. swept"),
+            format!("= swept\n{sums}=.. swept"),
+            format!("{slot}= swept"),
+        ] {
+            assert!(page(&told).is_err(), "{told}");
+        }
     }
 
     #[test]
