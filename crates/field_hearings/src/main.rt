@@ -38,6 +38,36 @@ fn spoiler_of<F: Field + Drop>(field: F, period: u16) -> anyhow::Result<Spoiler<
     Spoiler::new(field, period).ok().context("a period of 0")
 }
 
+// Sends a frame to a field, and prints what it hears.
+fn tell<F: Field>(
+    rt: &HostRuntime,
+    name: &str,
+    field: &mut F,
+    frame: &[u8],
+    row: u64,
+) -> anyhow::Result<()> {
+    let heard = hear(field, frame, row)?;
+    println!(rt; "  {name:<8} {heard}")?;
+    Ok(())
+}
+
+// Sends the frames to each of three fields. They are of any kinds here, which makes the proof short.
+fn play<B: Field, P: Field, S: Field>(
+    rt: &HostRuntime,
+    bench: &mut B,
+    pair: &mut P,
+    spoiler: &mut S,
+) -> anyhow::Result<()> {
+    for (command, parameters, row) in ACTS {
+        let frame = framed(rt.alloc(), u8::from(command), parameters)?;
+        println!(rt; "{command} with coins {row:04b}")?;
+        tell(rt, "bench", bench, &frame, row)?;
+        tell(rt, "pair", pair, &frame, row)?;
+        tell(rt, "spoiler", spoiler, &frame, row)?;
+    }
+    Ok(())
+}
+
 fn run(rt: &HostRuntime) -> anyhow::Result<()> {
     let mut parted = crowd();
     let mut below = crowd();
@@ -48,13 +78,7 @@ fn run(rt: &HostRuntime) -> anyhow::Result<()> {
     println!(rt;
         "four tags: on a bench, in a pair of one and three, and where each second lone reply is spoiled"
     )?;
-    for (command, parameters, row) in ACTS {
-        let frame = framed(rt.alloc(), u8::from(command), parameters)?;
-        println!(rt; "{command} with coins {row:04b}")?;
-        println!(rt; "  bench    {}", hear(&mut bench, frame.as_slice(), row)?)?;
-        println!(rt; "  pair     {}", hear(&mut pair, frame.as_slice(), row)?)?;
-        println!(rt; "  spoiler  {}", hear(&mut spoiler, frame.as_slice(), row)?)?;
-    }
+    play(rt, &mut bench, &mut pair, &mut spoiler)?;
     let alike = alike(&bench, &pair) && alike(&bench, &spoiler);
     println!(rt; "tags alike: {}", if alike { "yes" } else { "no" })?;
     Ok(())
