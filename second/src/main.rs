@@ -42,7 +42,6 @@ use speed::Load;
 const USAGE: &str = "usage: second frames SEED INPUT_FILE OUTPUT_FILE
        second tags SEED INPUT_FILE OUTPUT_FILE
        second fields SEED INPUT_FILE OUTPUT_FILE
-       second sweeps SEED INPUT_FILE OUTPUT_FILE
        second speed query SENDS
        second speed read SENDS
        second speed sweeps SWEEPS
@@ -53,8 +52,8 @@ const USAGE: &str = "usage: second frames SEED INPUT_FILE OUTPUT_FILE
 enum Subject {
     Frames,
     Tags,
+    /// Sweeps of them too.
     Fields,
-    Sweeps,
 }
 
 /// Questions and answers that are wanted.
@@ -141,7 +140,6 @@ fn understand(words: &[OsString]) -> Option<Job> {
         "frames" => Subject::Frames,
         "tags" => Subject::Tags,
         "fields" => Subject::Fields,
-        "sweeps" => Subject::Sweeps,
         _ => return None,
     };
     let seed = seed.to_str()?.parse().ok()?;
@@ -184,20 +182,15 @@ fn lines(job: &Job) -> Result<Vec<(String, String)>, String> {
                 by_hand::tags(asker.tag)?,
             )
         }
-        Subject::Fields => (
-            field_cases::all(job.seed)
+        Subject::Fields => {
+            let fields = field_cases::all(job.seed)
                 .into_iter()
-                .map(|asked| (asked.question.to_string(), asked.answer))
-                .collect(),
-            by_hand::fields()?,
-        ),
-        Subject::Sweeps => (
-            sweep_cases::all(job.seed)
+                .map(|asked| (asked.question.to_string(), asked.answer));
+            let sweeps = sweep_cases::all(job.seed)
                 .into_iter()
-                .map(|asked| (asked.question.to_string(), asked.answer))
-                .collect(),
-            Vec::new(),
-        ),
+                .map(|asked| (asked.question.to_string(), asked.answer));
+            (fields.chain(sweeps).collect(), by_hand::fields()?)
+        }
     };
     lines.extend(by_hand);
     Ok(lines)
@@ -230,29 +223,39 @@ mod tests {
         understand_race(&words)
     }
 
-    fn first_question(line: &str) -> String {
+    fn asked(line: &str) -> Vec<(String, String)> {
         let words: Vec<OsString> = line.split_whitespace().map(OsString::from).collect();
         let job = understand(&words).expect("the arguments are right");
-        lines(&job).expect("the pages are right")[0].0.clone()
+        lines(&job).expect("the pages are right")
     }
 
     #[test]
     fn the_verb_settles_the_subject() {
-        let first = |line: &str| {
-            let words: Vec<OsString> = line.split_whitespace().map(OsString::from).collect();
-            let job = understand(&words).expect("the arguments are right");
-            lines(&job).expect("the pages are right")[0].0.clone()
-        };
+        let first = |line: &str| asked(line)[0].0.clone();
         assert!(first("frames 1 q a").starts_with("check "));
         assert!(first("tags 1 q a").starts_with("step "));
     }
 
     #[test]
     fn questions_about_fields_begin_with_a_table() {
-        let first = first_question("fields 1 q a");
+        let first = asked("fields 1 q a")[0].0.clone();
         assert!(["tag ", "find ", "field "]
             .iter()
             .any(|verb| first.starts_with(verb)));
+    }
+
+    /// A play ends between them, so no answer hangs on a question of the other kind.
+    #[test]
+    fn questions_about_sweeps_stand_behind_those_about_fields() {
+        let asked = asked("fields 1 q a");
+        let fields = field_cases::all(1);
+        assert!(fields.last().is_some_and(|last| last.answer == "end"));
+        let (fields, sweeps) = asked.split_at(fields.len());
+        let is_sweep = |(question, _): &(String, String)| question.starts_with("sweep ");
+        assert!(!fields.iter().any(is_sweep));
+        assert!(sweeps.iter().any(is_sweep));
+        assert!(sweeps[0].0.starts_with("tag "));
+        assert!(asked.last().is_some_and(|(question, _)| question == "end"));
     }
 
     #[test]
@@ -305,11 +308,8 @@ mod tests {
     }
 
     #[test]
-    fn sweeps_are_a_subject_too() {
-        assert!(understood("sweeps 1 q a"));
-        assert!(!understood("sweeps 1 q"));
-        assert!(!understood("sweep 1 q a"));
-        assert!(first_question("sweeps 1 q a").starts_with("tag "));
-        assert!(USAGE.contains("second sweeps SEED"));
+    fn sweeps_are_no_subject_of_their_own() {
+        assert!(!understood("sweeps 1 q a"));
+        assert!(!USAGE.contains("second sweeps SEED"));
     }
 }

@@ -2,7 +2,7 @@
 ghost use Rattle.std.specs.Prelude.{◌≡◌, IfOk, IfErr};
 ghost use Rattle.spelling.specs.Misspellings.{Reads};
 ghost use Rattle.spelling.specs.declared.misspelt.Misspelt.TheVariants.{Bytes, Missing};
-ghost use Rattle.plays.specs.Questions.{SpellsRow, first_word, behind_first, IsOneWord};
+ghost use Rattle.field_cases.specs.Questions.{SpellsRow, first_word, behind_first, IsOneWord};
 
 use anyhow::Context;
 use record::{SIZE, State, Tag};
@@ -24,7 +24,7 @@ fn read_memory(heap: Global, text: &str) -> anyhow::Result<[u8; SIZE]> {
 
 // The first five words are those that set a tag in the questions about one. There they change a tag that is there, and
 // here they make one: a type for the five would be taken apart at once in both.
-pub(crate) fn read_tag(heap: Global, text: &str) -> anyhow::Result<Tag> {
+pub fn read_tag(heap: Global, text: &str) -> anyhow::Result<Tag> {
     let mut words = text.split_whitespace();
     Ok(Tag {
         state: word(words.next())?.parse::<State>()?,

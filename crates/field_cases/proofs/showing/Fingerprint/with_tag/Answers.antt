@@ -1,8 +1,8 @@
 -- The parts are taken one after the other, and so is their list.
 use Rattle.std.proofs.Common.{◌≡◌, ℕ, List, ◌++◌, fold, ◌∙◌, ap, rules}
 use Rattle.std.proofs.lemmas.List.Sums.{fold-append}
-use Rattle.plays.specs.Fingerprints.{byte_taken, tag_taken}
-use Rattle.plays.proofs.showing.Fingerprint.with_tag.Goals as goal
+use Rattle.field_cases.specs.Fingerprints.{byte_taken, tag_taken}
+use Rattle.field_cases.proofs.showing.Fingerprint.with_tag.Goals as goal
 
 parts : (v : ℕ) (xs ys zs : List ℕ) → fold byte_taken v ((xs ++ ys) ++ zs) ≡ fold byte_taken (fold byte_taken (fold byte_taken v xs) ys) zs
 parts v xs ys zs = fold-append byte_taken v (xs ++ ys) zs ∙ ap (λ (u : ℕ). fold byte_taken u zs) (fold-append byte_taken v xs ys)

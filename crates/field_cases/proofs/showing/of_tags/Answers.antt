@@ -5,9 +5,9 @@ use Rattle.std.proofs.lemmas.List.{take_more}
 use Rattle.std.proofs.lemmas.List.Sums.{fold-append}
 use Rattle.std.proofs.lemmas.Option.{slice_get_within, slice_get_cases, get_or_from_slice_get}
 use Rattle.record.specs.declared.Tag.{Tag}
-use Rattle.plays.specs.Fingerprints.{blank, tag_taken}
-use Rattle.plays.proofs.showing.of_tags.Goals as goal
-use Rattle.plays.proofs.showing.of_tags.Goals.{in-Some, in_default}
+use Rattle.field_cases.specs.Fingerprints.{blank, tag_taken}
+use Rattle.field_cases.proofs.showing.of_tags.Goals as goal
+use Rattle.field_cases.proofs.showing.of_tags.Goals.{in-Some, in_default}
 
 one_more : (xs : List Tag) (i : ℕ) (t : Tag) → slice_get xs i ≡ Some t → take (i + 1) xs ≡ take i xs ++ t ∷ []
 one_more xs i t e =

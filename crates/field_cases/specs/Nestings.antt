@@ -3,10 +3,10 @@ use Rattle.std.specs.Prelude.{◌≤◌, List, [], ◌∷◌, length}
 use Rattle.std.proofs.Common.{lit≤}
 use Rattle.record.specs.declared.Tag.{Tag}
 use Rattle.layers.specs.Pairs.{paired, paired_few}
-use Rattle.plays.specs.declared.nesting.Leaf.{Leaf}
-use Rattle.plays.specs.declared.nesting.Leaf.TheVariants.{Table, Lone}
-use Rattle.plays.specs.declared.nesting.Node.{Node}
-use Rattle.plays.specs.declared.nesting.Node.TheVariants.{Bare, Spoiled, Paired}
+use Rattle.field_cases.specs.declared.nesting.Leaf.{Leaf}
+use Rattle.field_cases.specs.declared.nesting.Leaf.TheVariants.{Table, Lone}
+use Rattle.field_cases.specs.declared.nesting.Node.{Node}
+use Rattle.field_cases.specs.declared.nesting.Node.TheVariants.{Bare, Spoiled, Paired}
 
 abbrev pub leaf_tags : Leaf → List Tag
 leaf_tags (Table b) = b.table.now

@@ -1,7 +1,7 @@
 // A field, built as words say: `bench N`, `single`, `pair LEFT RIGHT`, `spoiler K BELOW`.
 ghost use Rattle.std.specs.Prelude.{◌≡◌, ◌<◌, [], ◌++◌, length, IfOk, OnErr};
-ghost use Rattle.plays.specs.Builds.{parts_tags};
-ghost use Rattle.plays.specs.Nestings.{leaf_tags, node_tags};
+ghost use Rattle.field_cases.specs.Builds.{parts_tags};
+ghost use Rattle.field_cases.specs.Nestings.{leaf_tags, node_tags};
 
 use crate::nesting::{Leaf, Node};
 use anyhow::{Context, anyhow};

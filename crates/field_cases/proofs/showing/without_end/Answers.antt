@@ -1,7 +1,7 @@
 -- One 00 more is taken away.
 use Rattle.std.proofs.Common.{◌≡◌, ℕ, suc, List, [], ◌∷◌, ◌++◌, ap, ◌∙◌, append_assoc}
 use Rattle.std.specs.Prelude.{replicate}
-use Rattle.plays.proofs.showing.without_end.Goals as goal
+use Rattle.field_cases.proofs.showing.without_end.Goals as goal
 
 one_less : (whole bytes front : List ℕ) (x n : ℕ) → whole ≡ bytes ++ replicate n 0 → bytes ≡ front ++ x ∷ [] → x ≡ 0
     → whole ≡ front ++ replicate (suc n) 0

@@ -2,13 +2,14 @@
 // NESTING` over it, then questions to that field, then `end`.
 ghost use Rattle.std.specs.Prelude.{◌≡◌, [], ◌∷◌, ◌++◌, IfOk};
 ghost use Rattle.record.specs.declared.Tag.{Tag};
-ghost use Rattle.plays.specs.Questions.{Sends, Passes, Asks};
+ghost use Rattle.field_cases.specs.Questions.{Sends, Passes, Asks};
 
 use crate::asking::{Asked, Sending};
 use crate::building::{Build, Trouble, built};
 use crate::nesting::Below;
 use crate::reading::{read_tag, split_word};
 use crate::showing::of_tags;
+use crate::storage::Storage;
 use anyhow::{Context, bail, ensure};
 use bench::bench::{Bench, place_of};
 use field::field::Field;
@@ -17,23 +18,11 @@ use spelling::hexadecimal::read_bytes;
 use spelling::line::Line;
 use std::io::{BufRead, BufReader};
 
-// What a program answers to the questions about a field. Each play begins with a new one.
-pub trait Answer: Drop {
-    fn begin() -> Self;
-
-    fn answer<R: Print + AllocGlobal, F: Field>(
-        &mut self,
-        rt: &R,
-        asked: &mut Asked<F>,
-        verb: &str,
-        rest: &str,
-    ) -> anyhow::Result<()>;
-}
-
-// The answer to a send or a gap. Where there is none, nothing is said of the field: its answer may have gone unprinted.
-pub fn answer_call<R: Print + AllocGlobal, F: Field>(
-    rt: &R,
+// The answer to a question. Where there is none, nothing is said of the field: its answer may have gone unprinted.
+fn answer<F: Field>(
+    rt: &HostRuntime,
     asked: &mut Asked<F>,
+    storage: &mut Storage,
     verb: &str,
     rest: &str,
 ) -> anyhow::Result<()>
@@ -43,15 +32,12 @@ pub fn answer_call<R: Print + AllocGlobal, F: Field>(
     match verb {
         "send" => answer_send(rt, asked, rest),
         "gap" => answer_gap(rt, asked, rest),
+        "sweep" => storage.sweep(rt, &mut asked.field, rest),
         _ => bail!("no question to a field, as `send ROW ROOM FRAME` is"),
     }
 }
 
-fn answer_send<R: Print + AllocGlobal, F: Field>(
-    rt: &R,
-    asked: &mut Asked<F>,
-    text: &str,
-) -> anyhow::Result<()>
+fn answer_send<F: Field>(rt: &HostRuntime, asked: &mut Asked<F>, text: &str) -> anyhow::Result<()>
     ensures { IfOk result (λ _. Sends text.now (F.Field.tags asked.old.field) (F.Field.tags asked.new.field)) }
 {
     let sending = Sending::read(rt.alloc(), text)?;
@@ -59,7 +45,7 @@ fn answer_send<R: Print + AllocGlobal, F: Field>(
     Ok(())
 }
 
-fn answer_gap<R: Print, F: Field>(rt: &R, asked: &mut Asked<F>, text: &str) -> anyhow::Result<()>
+fn answer_gap<F: Field>(rt: &HostRuntime, asked: &mut Asked<F>, text: &str) -> anyhow::Result<()>
     ensures { IfOk result (λ _. Passes text.now (F.Field.tags asked.old.field) (F.Field.tags asked.new.field)) }
 {
     println!(rt; "gap {}", asked.pass(text.parse::<u32>()?))?;
@@ -68,12 +54,12 @@ fn answer_gap<R: Print, F: Field>(rt: &R, asked: &mut Asked<F>, text: &str) -> a
 
 // What a play begins with: a table, which is filled tag by tag.
 #[derive(Drop)]
-struct Stage<'a, R> {
-    rt: &'a R,
+struct Stage<'a> {
+    rt: &'a HostRuntime,
     table: Vec<Tag>,
 }
 
-impl<R: Print + AllocGlobal> Stage<'_, R> {
+impl Stage<'_> {
     // A question before there is a field: one tag more, or where a serial number is.
     fn prepare(&mut self, question: &str) -> anyhow::Result<()> {
         let (verb, rest) = split_word(question)?;
@@ -105,24 +91,24 @@ impl<R: Print + AllocGlobal> Stage<'_, R> {
     }
 }
 
-fn answer_all<R: Print + AllocGlobal, A: Answer, F: Field + Drop>(
-    rt: &R,
+fn answer_all<F: Field + Drop>(
+    rt: &HostRuntime,
     field: F,
     questions: &[String],
 ) -> anyhow::Result<()> {
-    let mut answers = A::begin();
     let mut asked = Asked::new(field);
+    let mut storage = Storage::new();
     for question in questions {
         let (verb, rest) = split_word(question.as_str())?;
-        answers.answer(rt, &mut asked, verb, rest)?;
+        answer(rt, &mut asked, &mut storage, verb, rest)?;
     }
     Ok(())
 }
 
 // Builds the field of a play, and puts the questions to it. A refused field is one of no tags. What stands below the
 // outermost layer is a parameter, since the toolchain proves this for any such field, and not at a nesting written out.
-fn perform<'a, R: Print + AllocGlobal, A: Answer, F: Build<'a> + Drop>(
-    rt: &R,
+fn perform<'a, F: Build<'a> + Drop>(
+    rt: &HostRuntime,
     table: &'a mut [Tag],
     nesting: &str,
     questions: &[String],
@@ -130,17 +116,17 @@ fn perform<'a, R: Print + AllocGlobal, A: Answer, F: Build<'a> + Drop>(
     match built::<F>(nesting, table) {
         Ok(field) => {
             println!(rt; "places {} {}", field.places(), of_tags(&field))?;
-            answer_all::<R, A, _>(rt, field, questions)
+            answer_all(rt, field, questions)
         }
         Err(Trouble::Refused(refusal)) => {
             println!(rt; "refused {}", refusal.number())?;
-            answer_all::<R, A, _>(rt, Bench::new(), questions)
+            answer_all(rt, Bench::new(), questions)
         }
         Err(Trouble::Words(error)) => Err(error),
     }
 }
 
-fn play<R: Print + AllocGlobal, A: Answer>(rt: &R, lines: &[String]) -> anyhow::Result<()> {
+fn play(rt: &HostRuntime, lines: &[String]) -> anyhow::Result<()> {
     let mut stage = Stage {
         rt,
         table: Vec::new(rt.alloc()),
@@ -148,7 +134,7 @@ fn play<R: Print + AllocGlobal, A: Answer>(rt: &R, lines: &[String]) -> anyhow::
     let mut lines = lines;
     while let [line, questions @ ..] = lines {
         if let Some(nesting) = line.as_str().strip_prefix("field ") {
-            return perform::<R, A, Below>(rt, stage.table.as_mut_slice(), nesting, questions);
+            return perform::<Below>(rt, stage.table.as_mut_slice(), nesting, questions);
         }
         stage.prepare(line.as_str())?;
         lines = questions;
@@ -157,13 +143,13 @@ fn play<R: Print + AllocGlobal, A: Answer>(rt: &R, lines: &[String]) -> anyhow::
 }
 
 // Plays what stands in the input, play after play.
-pub fn play_all<R: Input + Print + AllocGlobal, A: Answer>(rt: &R) -> anyhow::Result<()> {
+pub fn play_all(rt: &HostRuntime) -> anyhow::Result<()> {
     let mut lines = Vec::new(rt.alloc());
     let input = BufReader::new(rt.alloc(), rt.reader())?.lines(rt.alloc());
     for (number, line) in (1..).zip(input) {
         let line = line?;
         if line.as_str() == "end" {
-            play::<R, A>(rt, lines.as_slice())
+            play(rt, lines.as_slice())
                 .context("the play that ends here")
                 .context(Line { number })?;
             println!(rt; "end")?;

@@ -1,6 +1,6 @@
 // Fields of every nesting, up to some layers: kinds of field like any other.
 ghost use Rattle.std.specs.Prelude.{true, false};
-ghost use Rattle.plays.specs.Nestings.{leaf_tags, leaf_few, node_tags, node_few};
+ghost use Rattle.field_cases.specs.Nestings.{leaf_tags, leaf_few, node_tags, node_few};
 
 use bench::bench::Bench;
 use bench::single::Single;

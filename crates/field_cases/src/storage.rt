@@ -1,9 +1,9 @@
 // What the lists of a play's sweeps are kept in, and the sweeps.
+use crate::reading::read_row;
+use crate::showing::{Fingerprint, of_tags};
 use anyhow::Context;
 use field::field::Field;
 use field::hearing::Hearing;
-use plays::reading::read_row;
-use plays::showing::{Fingerprint, of_tags};
 use protocol::command::Command;
 use rows::list::Rows;
 use slot::ending::Report;
@@ -29,7 +29,7 @@ const UNUSED: SlotRow = SlotRow {
 const PAGE: usize = 16384;
 
 #[derive(Drop)]
-pub(crate) struct Storage {
+pub struct Storage {
     slots: [SlotRow; SLOTS],
     serials: [Serial; SERIALS],
 }
@@ -60,7 +60,7 @@ impl Order {
 }
 
 impl Storage {
-    pub(crate) fn new() -> Storage {
+    pub fn new() -> Storage {
         Storage {
             slots: [UNUSED; SLOTS],
             serials: [[0xa5; 8]; SERIALS],
@@ -68,9 +68,9 @@ impl Storage {
     }
 
     // Sweeps a field, and prints the sheet or the refusal, and what tags and storage then hold.
-    pub(crate) fn sweep<R: Print + AllocGlobal, F: Field>(
+    pub fn sweep<F: Field>(
         &mut self,
-        rt: &R,
+        rt: &HostRuntime,
         field: &mut F,
         text: &str,
     ) -> anyhow::Result<()> {
@@ -114,7 +114,7 @@ impl Storage {
 }
 
 // Prints the sheet of a sweep.
-fn show<R: Print>(rt: &R, lists: &Lists<'_>, report: &Report) -> anyhow::Result<()> {
+fn show(rt: &HostRuntime, lists: &Lists<'_>, report: &Report) -> anyhow::Result<()> {
     let mut page = [0; PAGE];
     let length = sheet::write(
         lists.slots.as_slice(),

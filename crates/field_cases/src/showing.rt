@@ -1,7 +1,7 @@
 // Answers, as they are written.
 ghost use Rattle.std.specs.Prelude.{◌≡◌, ◌≢◌, ℕ, List, [], ◌∷◌, ◌++◌, map, fold, replicate};
 ghost use Rattle.std.specs.Int.{from_bool};
-ghost use Rattle.plays.specs.Fingerprints.{blank, byte_taken, fingerprint, tag_taken, tags_fingerprint};
+ghost use Rattle.field_cases.specs.Fingerprints.{blank, byte_taken, fingerprint, tag_taken, tags_fingerprint};
 
 use field::field::Field;
 use record::{SIZE, Tag};

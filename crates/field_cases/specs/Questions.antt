@@ -48,6 +48,6 @@ pub record Passes (text : List ℕ) (before after : List Tag) : Type 0 where
   pub spelt : SpellsNumber text microseconds
   pub tags : after ≡ gapped_all microseconds before
 
--- A question to a field is a send or a gap.
+-- A question to a field is a send, a gap or a sweep.
 abbrev pub Asks : (verb rest : List ℕ) → List Tag → List Tag → Type 0
-Asks verb rest before after = ((verb ≡ codes "send") × Sends rest before after) ⊎ ((verb ≡ codes "gap") × Passes rest before after)
+Asks verb rest before after = ((verb ≡ codes "send") × Sends rest before after) ⊎ ((verb ≡ codes "gap") × Passes rest before after) ⊎ (verb ≡ codes "sweep")

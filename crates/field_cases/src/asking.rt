@@ -3,8 +3,8 @@ ghost use Rattle.std.specs.Prelude.{◌≡◌, ◌≤◌, ◌++◌, take, drop, 
 ghost use Rattle.frame.specs.Openings.{opening};
 ghost use Rattle.field.specs.Airs.{MayHear};
 ghost use Rattle.field.specs.Sends.{on_air, is_short, sent_to, refusal_in, left_in, gapped_all};
-ghost use Rattle.plays.specs.Fingerprints.{tags_fingerprint};
-ghost use Rattle.plays.specs.Questions.{SpellsSending};
+ghost use Rattle.field_cases.specs.Fingerprints.{tags_fingerprint};
+ghost use Rattle.field_cases.specs.Questions.{SpellsSending};
 
 use crate::reading::{read_row, split_word};
 use crate::showing::{Fingerprint, of_bytes, of_tags, without_end};
