@@ -4,7 +4,7 @@ ghost use Rattle.spelling.specs.Misspellings.{Reads};
 ghost use Rattle.spelling.specs.declared.misspelt.Misspelt.TheVariants.{Bytes, Missing};
 ghost use Rattle.field_cases.specs.Questions.{SpellsRow, first_word, behind_first, IsOneWord};
 
-use anyhow::Context;
+use anyhow::bail;
 use record::{SIZE, State, Tag};
 use spelling::hexadecimal::{read_array, read_byte, read_bytes};
 use spelling::misspelt::Misspelt;
@@ -14,11 +14,13 @@ use std::alloc::Global;
 // The first bytes of a memory, whose others are 00.
 fn read_memory(heap: Global, text: &str) -> anyhow::Result<[u8; SIZE]> {
     let bytes = read_bytes(heap, text)?;
-    let mut memory = [0u8; SIZE];
-    memory
-        .get_mut(..bytes.len())
-        .context("too many bytes for a memory")?
-        .copy_from_slice(bytes.as_slice());
+    if bytes.len() > SIZE {
+        bail!("too many bytes for a memory");
+    }
+    let mut memory = [0; SIZE];
+    for (place, byte) in memory.iter_mut().zip(bytes.iter()) {
+        *place = *byte;
+    }
     Ok(memory)
 }
 

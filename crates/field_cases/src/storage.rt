@@ -46,16 +46,12 @@ struct Order {
 impl Order {
     fn read(heap: Global, text: &str) -> anyhow::Result<Order> {
         let mut words = text.split_whitespace();
-        let mut order = Order {
+        Ok(Order {
             budget: word(words.next())?.parse::<u16>()?,
             slots: word(words.next())?.parse::<usize>()?,
             serials: word(words.next())?.parse::<usize>()?,
-            coins: Vec::new(heap),
-        };
-        for row in words {
-            order.coins.push(read_row(row)?)?;
-        }
-        Ok(order)
+            coins: words.map(read_row).try_collect(heap)?,
+        })
     }
 }
 
