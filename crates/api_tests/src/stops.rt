@@ -1,0 +1,101 @@
+// How sweeps slot by slot end.
+use crate::setting::*;
+use bench::bench::Bench;
+use slot::counts::Counts;
+use slot::ending::{End, Report, Stop, Stopped};
+use std::test::Fail;
+
+#[test]
+fn numbers(rt: HostRuntime) {
+    let counts = Counts {
+        lone: 1,
+        silent: 2,
+        clash: 3,
+        commands: 4,
+    };
+    for (stop, number) in [(Stop::Deep, 7), (Stop::Spent, 8), (Stop::Full, 9)] {
+        let report = Report::from(Stopped { stop, counts });
+        assert_eq!(rt; (stop.number(), report.end.number()), (number, number));
+        assert_eq!(rt; report.counts, counts);
+    }
+    assert_eq!(rt; End::Whole.number(), 0);
+}
+
+// Each call of the sweep of two tags is stopped by a spent budget, and each that lists something by a full list.
+#[test]
+fn of_two_tags(rt: HostRuntime) -> Result<(), Fail> {
+    // The budget, the room of the lists, the end's number, the lone, silent and clash slots with the commands, and how
+    // many slots and serial numbers are listed.
+    for (budget, rooms, number, counted, listed) in [
+        // Opening.
+        (0, (0, 0), 8, [0, 0, 0, 0], (0, 0)),
+        (1, (0, 0), 9, [0, 0, 0, 0], (0, 0)),
+        // Splitting.
+        (1, (1, 0), 8, [0, 0, 1, 1], (1, 0)),
+        (2, (1, 0), 9, [0, 0, 1, 1], (1, 0)),
+        // Reading.
+        (2, (2, 1), 8, [1, 0, 1, 2], (2, 1)),
+        (2, (2, 0), 9, [1, 0, 1, 2], (2, 0)),
+        // Leaving.
+        (3, (2, 1), 8, [1, 0, 1, 3], (2, 1)),
+        (4, (2, 1), 9, [1, 0, 1, 3], (2, 1)),
+        // Closing.
+        (5, (3, 2), 8, [2, 0, 1, 5], (3, 2)),
+        // None: the worked sweep.
+        (100, (300, 4), 0, [2, 0, 1, 6], (3, 2)),
+    ] {
+        let (mut slots, mut serials) = storage();
+        let mut lists = lists_in(&mut slots, &mut serials, rooms)?;
+        let report = work(&mut bench_over(&mut two_tags()), &COINS, budget, &mut lists)?;
+        let Counts {
+            lone,
+            silent,
+            clash,
+            commands,
+        } = report.counts;
+        assert_eq!(rt; report.end.number(), number, "{budget}");
+        assert_eq!(rt; [lone, silent, clash, commands], counted, "{budget}");
+        assert_eq!(rt;
+            (lists.slots.len(), lists.serials.len()),
+            listed,
+            "{budget}"
+        );
+        assert!(rt; SLOTS.starts_with(lists.slots.as_slice()), "{budget}");
+        assert!(rt; SERIALS.starts_with(lists.serials.as_slice()), "{budget}");
+    }
+    Ok(())
+}
+
+// After 255 splits that leave nobody waiting, the budget being spent and the list full as well.
+#[test]
+fn too_deep(rt: HostRuntime) -> Result<(), Fail> {
+    let (mut slots, mut serials) = storage();
+    let mut lists = lists_in(&mut slots, &mut serials, (256, 0))?;
+    let report = work(&mut bench_over(&mut two_tags()), &[0], 256, &mut lists)?;
+    let counts = Counts {
+        lone: 0,
+        silent: 0,
+        clash: 256,
+        commands: 256,
+    };
+    let end = End::Stopped(Stop::Deep);
+    assert_eq!(rt; report, Report { end, counts });
+    Ok(())
+}
+
+// Nobody replies to SELECT.
+#[test]
+fn of_no_tags(rt: HostRuntime) -> Result<(), Fail> {
+    let (mut slots, mut serials) = storage();
+    let mut lists = lists_in(&mut slots, &mut serials, (1, 0))?;
+    let report = work(&mut Bench::new(), &COINS, 2, &mut lists)?;
+    let counts = Counts {
+        lone: 0,
+        silent: 1,
+        clash: 0,
+        commands: 2,
+    };
+    let end = End::Whole;
+    assert_eq!(rt; report, Report { end, counts });
+    Ok(())
+}
