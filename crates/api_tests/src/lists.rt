@@ -2,21 +2,20 @@
 use crate::setting::SLOTS;
 use rows::list::{Full, Rows};
 use std::process::Abort;
-use std::test::Fail;
 
 // Fills a list over storage of two places, whose rows are other ones before.
 fn fills<T: Copy + PartialEq>(rt: &impl Abort, storage: &mut [T], rows: &[T; 3]) {
     let mut list = Rows::new(storage);
-    let pushes = [(0, Ok(())), (1, Ok(())), (2, Err(Full))];
-    for (row, (filled, answer)) in rows.iter().zip(pushes) {
+    for (filled, answer) in [(0, Ok(())), (1, Ok(())), (2, Err(Full))] {
+        let is_full = filled == 2;
         assert_eq!(rt;
             (list.len(), list.room(), list.is_full()),
-            (filled, 2, filled == 2)
+            (filled, 2, is_full)
         );
-        assert_eq!(rt; list.push(*row), answer);
+        assert!(rt; list.as_slice() == &rows[..filled]);
+        assert_eq!(rt; list.push(rows[filled]), answer);
     }
     assert_eq!(rt; (list.len(), list.room(), list.is_full()), (2, 2, true));
-    assert!(rt; list.as_slice() == &rows[..2]);
     assert!(rt; &*list.into_storage() == &rows[..2]);
 }
 
@@ -38,16 +37,15 @@ fn without_room(rt: HostRuntime) {
 
 // Nothing behind the rows is touched.
 #[test]
-fn cleared_and_filled_again(rt: HostRuntime) -> Result<(), Fail> {
+fn cleared_and_filled_again(rt: HostRuntime) {
     let mut storage = [7u8, 8, 9];
     let mut list = Rows::new(&mut storage);
-    list.push(1)?;
-    list.push(2)?;
+    assert_eq!(rt; list.push(1), Ok(()));
+    assert_eq!(rt; list.push(2), Ok(()));
     list.clear();
     assert_eq!(rt; (list.len(), list.room(), list.is_full()), (0, 3, false));
-    list.push(3)?;
+    assert_eq!(rt; list.push(3), Ok(()));
     assert!(rt; list.as_slice() == [3u8].as_slice());
     assert!(rt; &*list.into_storage() == [3u8, 2, 9].as_slice());
     assert!(rt; storage == [3, 2, 9]);
-    Ok(())
 }

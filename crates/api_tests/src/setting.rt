@@ -7,10 +7,10 @@ use rows::list::Rows;
 use slot::ending::{End, Report};
 use slot::kinds::{ClashSlot, Left, LoneSlot, Slot, Unsplit};
 use slot::lists::Lists;
-use slot::row::{BLANK, Serial, SlotRow};
+use slot::row::{Serial, SlotRow};
 use slot::working::open;
 use spelling::sample::numbered_tag;
-use std::test::Fail;
+use std::process::Abort;
 
 // The row in which the second tag lets the first go before.
 pub(crate) const COINS: [u64; 1] = [2];
@@ -34,6 +34,9 @@ pub(crate) const SLOTS: [SlotRow; 3] = [
     },
 ];
 
+// More slots than there are.
+const MOST: usize = 8;
+
 pub(crate) const SERIALS: [Serial; 2] = [[0xef, 4, 2, 0, 0, 0, 0, 1], [0xef, 4, 2, 0, 0, 0, 0, 2]];
 
 pub(crate) fn two_tags() -> [Tag; 2] {
@@ -46,91 +49,61 @@ pub(crate) fn bench_over(table: &mut [Tag; 2]) -> Bench<'_> {
     bench
 }
 
-// Storage for the lists of a sweep.
-pub(crate) fn storage() -> ([SlotRow; 300], [Serial; 4]) {
-    ([BLANK; 300], [[0xa5; 8]; 4])
-}
-
-// Empty lists with room for some slots and serial numbers.
-pub(crate) fn lists_in<'a>(
-    slots: &'a mut [SlotRow],
-    serials: &'a mut [Serial],
-    (slot_room, serial_room): (usize, usize),
-) -> Result<Lists<'a>, Fail> {
-    Ok(Lists {
-        slots: Rows::new(slots.get_mut(..slot_room).ok_or("too many slots")?),
-        serials: Rows::new(serials.get_mut(..serial_room).ok_or("too many tags")?),
-    })
+// Empty lists in some storage.
+pub(crate) fn lists_in<'a>(slots: &'a mut [SlotRow], serials: &'a mut [Serial]) -> Lists<'a> {
+    Lists {
+        slots: Rows::new(slots),
+        serials: Rows::new(serials),
+    }
 }
 
 // A slot that is to be opened as a clash.
-pub(crate) fn clash<E: Drop>(opened: Result<Slot, E>) -> Result<ClashSlot, Fail> {
+pub(crate) fn clash<E: Drop>(rt: &impl Abort, opened: Result<Slot, E>) -> ClashSlot {
     match opened {
-        Ok(Slot::Clash(slot)) => Ok(slot),
-        Ok(slot) => {
-            let_go(slot);
-            Err(Fail::new("not a clash"))
-        }
-        Err(_) => Err(Fail::new("no slot")),
+        Ok(Slot::Clash(slot)) => slot,
+        _ => panic!(rt; "no clash"),
     }
 }
 
-pub(crate) fn lone<E: Drop>(opened: Result<Slot, E>) -> Result<LoneSlot, Fail> {
+pub(crate) fn lone<E: Drop>(rt: &impl Abort, opened: Result<Slot, E>) -> LoneSlot {
     match opened {
-        Ok(Slot::Lone(slot)) => Ok(slot),
-        Ok(Slot::Silent(_) | Slot::Clash(_)) => Err(Fail::new("not a lone tag")),
-        Err(_) => Err(Fail::new("no slot")),
-    }
-}
-
-// Gives a slot up, of whatever kind it is.
-fn let_go(slot: Slot) {
-    match slot {
-        Slot::Lone(slot) => {
-            slot.give_up();
-        }
-        Slot::Silent(_) | Slot::Clash(_) => {}
+        Ok(Slot::Lone(slot)) => slot,
+        _ => panic!(rt; "no lone tag"),
     }
 }
 
 // Ends a slot, each kind in its way, and opens the next.
-fn go_on(
-    slot: Slot,
-    field: &mut Bench<'_>,
-    coins: &[u64],
-    lists: &mut Lists<'_>,
-) -> Result<Left, Unsplit> {
+fn go_on(slot: Slot, field: &mut Bench<'_>, lists: &mut Lists<'_>) -> Result<Left, Unsplit> {
     match slot {
         Slot::Silent(slot) => Ok(slot.leave(field, lists)?),
         Slot::Lone(slot) => Ok(slot.read(field, lists)?.leave(field, lists)?),
-        Slot::Clash(slot) => Ok(Left::Next(slot.split(field, coins, lists)?)),
+        Slot::Clash(slot) => Ok(Left::Next(slot.split(field, &COINS, lists)?)),
     }
 }
 
-// Sweeps slot by slot until the sweep ends.
+// Sweeps slot by slot until the sweep ends: the end's number, and what is counted.
 pub(crate) fn work(
+    rt: &impl Abort,
     field: &mut Bench<'_>,
-    coins: &[u64],
     budget: u16,
     lists: &mut Lists<'_>,
-) -> Result<Report, Fail> {
+) -> Report {
     let mut slot = match open(field, budget, lists) {
         Ok(slot) => slot,
-        Err(stopped) => return Ok(Report::from(stopped)),
+        Err(stopped) => return Report::from(stopped),
     };
-    for _ in 0..300 {
-        slot = match go_on(slot, field, coins, lists) {
+    for _ in 0..MOST {
+        slot = match go_on(slot, field, lists) {
             Ok(Left::Next(next)) => next,
             Ok(Left::Whole(counts)) => {
-                return Ok(Report {
+                return Report {
                     end: End::Whole,
                     counts,
-                });
+                };
             }
-            Err(Unsplit::Stopped(stopped)) => return Ok(Report::from(stopped)),
-            Err(Unsplit::Refused(_)) => return Err(Fail::new("a refusal")),
+            Err(Unsplit::Stopped(stopped)) => return Report::from(stopped),
+            Err(Unsplit::Refused(_)) => panic!(rt; "a refusal"),
         };
     }
-    let_go(slot);
-    Err(Fail::new("too many slots"))
+    panic!(rt; "too many slots")
 }

@@ -8,7 +8,6 @@ use slot::counts::Counts;
 use slot::ending::{End, Report, Stop};
 use slot::row::SlotRow;
 use std::process::Abort;
-use std::test::Fail;
 
 const REPORT: Report = Report {
     end: End::Whole,
@@ -79,15 +78,18 @@ const TAIL: &str = "999998     0     2     0
 ";
 
 // A buffer of bytes A5 now begins with a text, and is untouched behind it.
-fn shows(rt: &impl Abort, buffer: &[u8], text: &str) -> Result<(), Fail> {
-    let (sheet, behind) = buffer.split_at_checked(text.len()).ok_or("too long")?;
+fn shows(rt: &impl Abort, buffer: &[u8], text: &str) {
+    let (sheet, behind) = buffer
+        .split_at_checked(text.len())
+        .expect(rt, "so long a text");
     assert!(rt; sheet == text.as_bytes());
-    assert!(rt; behind.iter().all(|byte| *byte == 0xa5));
-    Ok(())
+    for byte in behind {
+        assert_eq!(rt; *byte, 0xa5);
+    }
 }
 
 #[test]
-fn of_each_kind(rt: HostRuntime) -> Result<(), Fail> {
+fn of_each_kind(rt: HostRuntime) {
     for (slots, serials, report, text) in [
         (&SLOTS[..], &SERIALS[..], REPORT, SHEET),
         (&[], &SERIALS, REPORT, NO_SLOTS),
@@ -103,14 +105,13 @@ fn of_each_kind(rt: HostRuntime) -> Result<(), Fail> {
         let mut buffer = [0xa5; 300];
         let answer = write(slots, serials, &report, &mut buffer);
         assert_eq!(rt; answer, Ok(text.len()));
-        shows(&rt, &buffer, text)?;
+        shows(&rt, &buffer, text);
     }
-    Ok(())
 }
 
 // Room for the lists, and not for the last line, is too little, and so is one byte less than the sheet.
 #[test]
-fn rooms(rt: HostRuntime) -> Result<(), Fail> {
+fn rooms(rt: HostRuntime) {
     for (room, answer, text) in [
         (0, Err(Refusal::Buffer), ""),
         (141, Err(Refusal::Buffer), ""),
@@ -120,20 +121,21 @@ fn rooms(rt: HostRuntime) -> Result<(), Fail> {
         (300, Ok(172), SHEET),
     ] {
         let mut buffer = [0xa5; 300];
-        let front = buffer.get_mut(..room).ok_or("too much room")?;
+        let front = buffer.get_mut(..room).expect(&rt, "so much room");
         assert_eq!(rt; write(&SLOTS, &SERIALS, &REPORT, front), answer, "{room}");
-        shows(&rt, &buffer, text)?;
+        shows(&rt, &buffer, text);
     }
-    Ok(())
 }
 
 #[test]
-fn a_million_slots(rt: HostRuntime) -> Result<(), Fail> {
+fn a_million_slots(rt: HostRuntime) {
     let alloc = rt.alloc();
-    let slots = vec![in alloc; SLOTS[0]; 1_000_000]?;
-    let mut buffer = vec![in alloc; 0xa5; LENGTH + 1]?;
+    let slots = vec![in alloc; SLOTS[0]; 1_000_000].expect(&rt, "memory");
+    let mut buffer = vec![in alloc; 0xa5; LENGTH + 1].expect(&rt, "memory");
     let answer = write(&slots, &[], &REPORT, &mut buffer);
     assert_eq!(rt; answer, Ok(LENGTH));
-    let tail = buffer.get(LENGTH - TAIL.len()..).ok_or("too short")?;
-    shows(&rt, tail, TAIL)
+    let tail = buffer
+        .get(LENGTH - TAIL.len()..)
+        .expect(&rt, "so long a sheet");
+    shows(&rt, tail, TAIL);
 }

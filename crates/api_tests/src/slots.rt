@@ -3,11 +3,9 @@ use crate::setting::*;
 use protocol::refusal::Refusal;
 use record::State;
 use slot::counts::Counts;
-use slot::ending::{End, Report};
 use slot::kinds::Unsplit;
+use slot::row::BLANK;
 use slot::working::open;
-use spelling::sample::numbered_tag;
-use std::test::Fail;
 
 // One clash and one lone slot, each opened by a command.
 const SPLIT_ONCE: Counts = Counts {
@@ -19,38 +17,34 @@ const SPLIT_ONCE: Counts = Counts {
 
 // Nothing is sent to the tag, and its serial number is not listed.
 #[test]
-fn given_up(rt: HostRuntime) -> Result<(), Fail> {
-    let (mut slots, mut serials) = storage();
-    let mut lists = lists_in(&mut slots, &mut serials, (300, 4))?;
+fn given_up(rt: HostRuntime) {
+    let (mut slots, mut serials) = ([BLANK; 5], [[0; 8]; 2]);
+    let mut lists = lists_in(&mut slots, &mut serials);
     let mut table = two_tags();
     let mut bench = bench_over(&mut table);
-    let slot = clash(open(&mut bench, 2, &mut lists))?;
-    let given_up = lone(slot.split(&mut bench, &COINS, &mut lists))?.give_up();
-    assert_eq!(rt;
-        (given_up.serial, given_up.counts),
-        (SERIALS[0], SPLIT_ONCE)
-    );
+    let slot = clash(&rt, open(&mut bench, 2, &mut lists));
+    let given_up = lone(&rt, slot.split(&mut bench, &COINS, &mut lists)).give_up();
+    assert_eq!(rt; given_up.serial, SERIALS[0]);
+    assert_eq!(rt; given_up.counts, SPLIT_ONCE);
     assert!(rt; lists.slots.as_slice() == &SLOTS[..2]);
     assert!(rt; lists.serials.as_slice().is_empty());
-    for (tag, counter) in table.iter().zip([0, 1]) {
-        assert_eq!(rt; (tag.state, tag.counter), (State::Singulation, counter));
-    }
-    Ok(())
+    let [first, second] = table;
+    assert_eq!(rt; (first.state, first.counter), (State::Singulation, 0));
+    assert_eq!(rt; (second.state, second.counter), (State::Singulation, 1));
 }
 
 // The slot is handed back, all else is as it was, and the slot can be split by good rows afterwards.
 #[test]
-fn no_rows_and_65_are_refused(rt: HostRuntime) -> Result<(), Fail> {
-    let (mut slots, mut serials) = storage();
-    let mut lists = lists_in(&mut slots, &mut serials, (300, 4))?;
+fn no_rows_and_65_are_refused(rt: HostRuntime) {
+    let (mut slots, mut serials) = ([BLANK; 5], [[0; 8]; 2]);
+    let mut lists = lists_in(&mut slots, &mut serials);
     let mut table = two_tags();
-    let mut slot = clash(open(&mut bench_over(&mut table), 2, &mut lists))?;
+    let mut slot = clash(&rt, open(&mut bench_over(&mut table), 2, &mut lists));
     let before = table;
     for coins in [&[][..], &[2; 65][..]] {
         let result = slot.split(&mut bench_over(&mut table), coins, &mut lists);
         let Err(Unsplit::Refused(declined)) = result else {
-            lone(result)?.give_up();
-            return Err(Fail::new("no refusal"));
+            panic!(rt; "no refusal");
         };
         assert_eq!(rt; declined.refusal, Refusal::Coins);
         assert_eq!(rt; (lists.slots.len(), lists.serials.len()), (1, 0));
@@ -58,27 +52,24 @@ fn no_rows_and_65_are_refused(rt: HostRuntime) -> Result<(), Fail> {
         slot = declined.given;
     }
     let result = slot.split(&mut bench_over(&mut table), &[2; 64], &mut lists);
-    let given_up = lone(result)?.give_up();
-    assert_eq!(rt;
-        (given_up.serial, given_up.counts),
-        (SERIALS[0], SPLIT_ONCE)
-    );
+    let given_up = lone(&rt, result).give_up();
+    assert_eq!(rt; given_up.serial, SERIALS[0]);
+    assert_eq!(rt; given_up.counts, SPLIT_ONCE);
     assert!(rt; lists.slots.as_slice() == &SLOTS[..2]);
-    Ok(())
 }
 
 // The second split draws the second row of its own, and the third the first again.
 #[test]
-fn other_rows_at_each_split(rt: HostRuntime) -> Result<(), Fail> {
-    let (mut slots, mut serials) = storage();
-    let mut lists = lists_in(&mut slots, &mut serials, (300, 4))?;
+fn other_rows_at_each_split(rt: HostRuntime) {
+    let (mut slots, mut serials) = ([BLANK; 5], [[0; 8]; 2]);
+    let mut lists = lists_in(&mut slots, &mut serials);
     let mut table = two_tags();
     let mut bench = bench_over(&mut table);
-    let mut slot = clash(open(&mut bench, 100, &mut lists))?;
+    let mut slot = clash(&rt, open(&mut bench, 100, &mut lists));
     for coins in [[0, 2], [2, 0]] {
-        slot = clash(slot.split(&mut bench, &coins, &mut lists))?;
+        slot = clash(&rt, slot.split(&mut bench, &coins, &mut lists));
     }
-    let given_up = lone(slot.split(&mut bench, &[2, 0], &mut lists))?.give_up();
+    let given_up = lone(&rt, slot.split(&mut bench, &[2, 0], &mut lists)).give_up();
     let counts = Counts {
         lone: 1,
         silent: 0,
@@ -86,22 +77,19 @@ fn other_rows_at_each_split(rt: HostRuntime) -> Result<(), Fail> {
         commands: 4,
     };
     assert_eq!(rt; given_up.counts, counts);
-    Ok(())
 }
 
 // What is listed goes into the lists that each call is given.
 #[test]
-fn into_other_lists(rt: HostRuntime) -> Result<(), Fail> {
-    let ((mut slots, mut serials), (mut later, mut read)) = (storage(), storage());
-    let mut lists = lists_in(&mut slots, &mut serials, (1, 0))?;
-    let mut other = lists_in(&mut later, &mut read, (1, 1))?;
+fn into_other_lists(rt: HostRuntime) {
+    let (mut slots, mut later, mut read) = ([BLANK], [BLANK], [[0; 8]]);
+    let mut lists = lists_in(&mut slots, &mut []);
+    let mut other = lists_in(&mut later, &mut read);
     let mut table = two_tags();
     let mut bench = bench_over(&mut table);
-    let slot = clash(open(&mut bench, 100, &mut lists))?;
-    let slot = lone(slot.split(&mut bench, &COINS, &mut other))?;
-    let _ = slot.read(&mut bench, &mut other)?;
-    assert!(rt; slots.starts_with(&SLOTS[..1]));
-    assert!(rt; later.starts_with(&SLOTS[1..2]));
-    assert!(rt; read.starts_with(&SERIALS[..1]));
-    Ok(())
+    let slot = clash(&rt, open(&mut bench, 100, &mut lists));
+    let slot = lone(&rt, slot.split(&mut bench, &COINS, &mut other));
+    assert!(rt; slot.read(&mut bench, &mut other).is_ok());
+    assert_eq!(rt; [slots[0], later[0]], [SLOTS[0], SLOTS[1]]);
+    assert_eq!(rt; read, [SERIALS[0]]);
 }

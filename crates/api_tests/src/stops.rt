@@ -1,9 +1,8 @@
 // How sweeps slot by slot end.
 use crate::setting::*;
-use bench::bench::Bench;
 use slot::counts::Counts;
 use slot::ending::{End, Report, Stop, Stopped};
-use std::test::Fail;
+use slot::row::BLANK;
 
 #[test]
 fn numbers(rt: HostRuntime) {
@@ -23,7 +22,7 @@ fn numbers(rt: HostRuntime) {
 
 // Each call of the sweep of two tags is stopped by a spent budget, and each that lists something by a full list.
 #[test]
-fn of_two_tags(rt: HostRuntime) -> Result<(), Fail> {
+fn of_two_tags(rt: HostRuntime) {
     // The budget, the room of the lists, the end's number, the lone, silent and clash slots with the commands, and how
     // many slots and serial numbers are listed.
     for (budget, rooms, number, counted, listed) in [
@@ -44,9 +43,12 @@ fn of_two_tags(rt: HostRuntime) -> Result<(), Fail> {
         // None: the worked sweep.
         (100, (300, 4), 0, [2, 0, 1, 6], (3, 2)),
     ] {
-        let (mut slots, mut serials) = storage();
-        let mut lists = lists_in(&mut slots, &mut serials, rooms)?;
-        let report = work(&mut bench_over(&mut two_tags()), &COINS, budget, &mut lists)?;
+        let (mut slots, mut serials) = ([BLANK; 300], [[0; 8]; 4]);
+        let mut lists = lists_in(
+            slots.get_mut(..rooms.0).expect(&rt, "so many slots"),
+            serials.get_mut(..rooms.1).expect(&rt, "so many tags"),
+        );
+        let report = work(&rt, &mut bench_over(&mut two_tags()), budget, &mut lists);
         let Counts {
             lone,
             silent,
@@ -55,47 +57,13 @@ fn of_two_tags(rt: HostRuntime) -> Result<(), Fail> {
         } = report.counts;
         assert_eq!(rt; report.end.number(), number, "{budget}");
         assert_eq!(rt; [lone, silent, clash, commands], counted, "{budget}");
-        assert_eq!(rt;
-            (lists.slots.len(), lists.serials.len()),
-            listed,
+        assert!(rt;
+            SLOTS.get(..listed.0) == Some(lists.slots.as_slice()),
             "{budget}"
         );
-        assert!(rt; SLOTS.starts_with(lists.slots.as_slice()), "{budget}");
-        assert!(rt; SERIALS.starts_with(lists.serials.as_slice()), "{budget}");
+        assert!(rt;
+            SERIALS.get(..listed.1) == Some(lists.serials.as_slice()),
+            "{budget}"
+        );
     }
-    Ok(())
-}
-
-// After 255 splits that leave nobody waiting, the budget being spent and the list full as well.
-#[test]
-fn too_deep(rt: HostRuntime) -> Result<(), Fail> {
-    let (mut slots, mut serials) = storage();
-    let mut lists = lists_in(&mut slots, &mut serials, (256, 0))?;
-    let report = work(&mut bench_over(&mut two_tags()), &[0], 256, &mut lists)?;
-    let counts = Counts {
-        lone: 0,
-        silent: 0,
-        clash: 256,
-        commands: 256,
-    };
-    let end = End::Stopped(Stop::Deep);
-    assert_eq!(rt; report, Report { end, counts });
-    Ok(())
-}
-
-// Nobody replies to SELECT.
-#[test]
-fn of_no_tags(rt: HostRuntime) -> Result<(), Fail> {
-    let (mut slots, mut serials) = storage();
-    let mut lists = lists_in(&mut slots, &mut serials, (1, 0))?;
-    let report = work(&mut Bench::new(), &COINS, 2, &mut lists)?;
-    let counts = Counts {
-        lone: 0,
-        silent: 1,
-        clash: 0,
-        commands: 2,
-    };
-    let end = End::Whole;
-    assert_eq!(rt; report, Report { end, counts });
-    Ok(())
 }

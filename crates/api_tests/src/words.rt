@@ -8,13 +8,18 @@ use spelling::misspelt::Misspelt;
 use spelling::sample::{OWN, sample_tag, to_tag};
 use spelling::sent::{framed, replied};
 use spelling::words::{no_word, read_bit, read_locks, read_mark, read_permission, word};
-use std::test::Fail;
 
 // The crate `hex` reads small letters too, which are no digits here.
 #[test]
-fn bytes_are_read(rt: HostRuntime) -> Result<(), Fail> {
+fn bytes_are_read(rt: HostRuntime) {
     for (text, bytes) in [("00FFA9", &[0x00, 0xff, 0xa9][..]), ("-", &[]), ("", &[])] {
-        assert_eq!(rt; read_bytes(rt.alloc(), text)?.as_slice(), bytes, "{text}");
+        assert_eq!(rt;
+            read_bytes(rt.alloc(), text)
+                .expect(&rt, "memory")
+                .as_slice(),
+            bytes,
+            "{text}"
+        );
     }
     for text in [
         "0", "000", "0G", "0x", "+1", " 0", "--", "-0", "ff", "Ff", "fF", "a0", "0a", "00fF",
@@ -27,21 +32,19 @@ fn bytes_are_read(rt: HostRuntime) -> Result<(), Fail> {
     }
     assert_eq!(rt; read_array::<3>("0001FE"), Ok([0x00, 0x01, 0xfe]));
     assert_eq!(rt; read_byte("9C"), Ok(0x9c));
-    Ok(())
 }
 
 #[test]
-fn bytes_are_shown(rt: HostRuntime) -> Result<(), Fail> {
+fn bytes_are_shown(rt: HostRuntime) {
     for (bytes, plain, spaced) in [
         (&[0x00, 0xff, 0xa9][..], "00FFA9", "00 FF A9"),
         (&[], "-", "-"),
     ] {
-        let shown = format!(in rt.alloc(); "{}", Hex::new(bytes))?;
+        let shown = format!(in rt.alloc(); "{}", Hex::new(bytes)).expect(&rt, "memory");
         assert_eq!(rt; shown.as_str(), plain);
-        let shown = format!(in rt.alloc(); "{}", Hex::spaced(bytes))?;
+        let shown = format!(in rt.alloc(); "{}", Hex::spaced(bytes)).expect(&rt, "memory");
         assert_eq!(rt; shown.as_str(), spaced);
     }
-    Ok(())
 }
 
 #[test]
@@ -62,26 +65,24 @@ fn words_of_a_record(rt: HostRuntime) {
 }
 
 #[test]
-fn locks_from_the_highest_bit_on(rt: HostRuntime) -> Result<(), Fail> {
-    let locks = read_locks("C0000000000001")?;
+fn locks_from_the_highest_bit_on(rt: HostRuntime) {
+    let locks = read_locks("C0000000000001").expect(&rt, "memory");
     for (address, is_locked) in locks.iter().enumerate() {
         assert_eq!(rt; *is_locked, address < 2 || address == 55, "{address}");
     }
     assert_eq!(rt; read_locks("C00000000000"), Err(Misspelt::Bytes));
-    Ok(())
 }
 
 #[test]
-fn errors(rt: HostRuntime) -> Result<(), Fail> {
+fn errors(rt: HostRuntime) {
     assert_eq!(rt; Misspelt::from(FromHexError::OddLength), Misspelt::Bytes);
     assert_eq!(rt; Misspelt::from(FromHexError::OutOfMemory), Misspelt::Memory);
-    let shown = format!(in rt.alloc(); "{}", Misspelt::Bit)?;
+    let shown = format!(in rt.alloc(); "{}", Misspelt::Bit).expect(&rt, "memory");
     assert_eq!(rt; shown.as_str(), "neither 0 nor 1");
-    Ok(())
 }
 
 #[test]
-fn frames(rt: HostRuntime) -> Result<(), Fail> {
+fn frames(rt: HostRuntime) {
     let select = [
         0x00, 0x00, 0xc0, 0xef, 0x04, 0x00, 0x00, 0x00, 0x00, 0x00, 0x00, 0xa3, 0xa6,
     ];
@@ -89,18 +90,22 @@ fn frames(rt: HostRuntime) -> Result<(), Fail> {
         (0x00, &OWN[..], &select[..]),
         (0x08, &[], &[0x08, 0x9f, 0x07]),
     ] {
-        assert_eq!(rt; framed(rt.alloc(), code, parameters)?.as_slice(), frame);
+        assert_eq!(rt;
+            framed(rt.alloc(), code, parameters)
+                .expect(&rt, "memory")
+                .as_slice(),
+            frame
+        );
     }
     for (code, refusal) in [(0x01, Refusal::Code), (0x00, Refusal::Length)] {
         let answer = framed(rt.alloc(), code, &[]).err();
         assert_eq!(rt; answer, Some(Misspelt::Refused(refusal)));
     }
-    Ok(())
 }
 
 #[test]
-fn what_a_tag_is_sent_and_replies(rt: HostRuntime) -> Result<(), Fail> {
-    let parameters = to_tag(rt.alloc(), &[0x08, 0x0f])?;
+fn what_a_tag_is_sent_and_replies(rt: HostRuntime) {
+    let parameters = to_tag(rt.alloc(), &[0x08, 0x0f]).expect(&rt, "memory");
     let expected = [0xef, 0x04, 0x02, 0x00, 0x00, 0x00, 0x00, 0x01, 0x08, 0x0f];
     assert_eq!(rt; parameters.as_slice(), expected.as_slice());
     let serial = [0xef, 0x04, 0x02, 0x00, 0x00, 0x00, 0x00, 0x01, 0x3d, 0x9d];
@@ -110,7 +115,9 @@ fn what_a_tag_is_sent_and_replies(rt: HostRuntime) -> Result<(), Fail> {
         (None, &[]),
     ] {
         assert_eq!(rt;
-            replied(rt.alloc(), &sample_tag(), reply)?.as_slice(),
+            replied(rt.alloc(), &sample_tag(), reply)
+                .expect(&rt, "memory")
+                .as_slice(),
             bytes
         );
     }
@@ -118,7 +125,6 @@ fn what_a_tag_is_sent_and_replies(rt: HostRuntime) -> Result<(), Fail> {
         address: 0x00,
         more: 0xff,
     };
-    let reply = replied(rt.alloc(), &sample_tag(), Some(longest))?;
+    let reply = replied(rt.alloc(), &sample_tag(), Some(longest)).expect(&rt, "memory");
     assert_eq!(rt; reply.len(), 258);
-    Ok(())
 }
