@@ -8,14 +8,11 @@ fn fills<T: Copy + PartialEq>(rt: &impl Abort, storage: &mut [T], rows: &[T; 3])
     let mut list = Rows::new(storage);
     for (filled, answer) in [(0, Ok(())), (1, Ok(())), (2, Err(Full))] {
         let is_full = filled == 2;
-        assert_eq!(rt;
-            (list.len(), list.room(), list.is_full()),
-            (filled, 2, is_full)
-        );
+        assert!(rt; (list.len(), list.room(), list.is_full()) == (filled, 2, is_full));
         assert!(rt; list.as_slice() == &rows[..filled]);
-        assert_eq!(rt; list.push(rows[filled]), answer);
+        assert!(rt; list.push(rows[filled]) == answer);
     }
-    assert_eq!(rt; (list.len(), list.room(), list.is_full()), (2, 2, true));
+    assert!(rt; (list.len(), list.room(), list.is_full()) == (2, 2, true));
     assert!(rt; &*list.into_storage() == &rows[..2]);
 }
 
@@ -29,10 +26,10 @@ fn of_each_kind(rt: HostRuntime) {
 #[test]
 fn without_room(rt: HostRuntime) {
     let mut list = Rows::new(&mut []);
-    assert_eq!(rt; (list.len(), list.room(), list.is_full()), (0, 0, true));
-    assert_eq!(rt; list.push(5u8), Err(Full));
-    assert_eq!(rt; list.len(), 0);
-    assert_eq!(rt; list.into_storage().len(), 0);
+    assert!(rt; (list.len(), list.room(), list.is_full()) == (0, 0, true));
+    assert!(rt; list.push(5u8) == Err(Full));
+    assert!(rt; list.len() == 0);
+    assert!(rt; list.into_storage().len() == 0);
 }
 
 // Nothing behind the rows is touched.
@@ -40,11 +37,11 @@ fn without_room(rt: HostRuntime) {
 fn cleared_and_filled_again(rt: HostRuntime) {
     let mut storage = [7u8, 8, 9];
     let mut list = Rows::new(&mut storage);
-    assert_eq!(rt; list.push(1), Ok(()));
-    assert_eq!(rt; list.push(2), Ok(()));
+    assert!(rt; list.push(1) == Ok(()));
+    assert!(rt; list.push(2) == Ok(()));
     list.clear();
-    assert_eq!(rt; (list.len(), list.room(), list.is_full()), (0, 3, false));
-    assert_eq!(rt; list.push(3), Ok(()));
+    assert!(rt; (list.len(), list.room(), list.is_full()) == (0, 3, false));
+    assert!(rt; list.push(3) == Ok(()));
     assert!(rt; list.as_slice() == [3u8].as_slice());
     assert!(rt; &*list.into_storage() == [3u8, 2, 9].as_slice());
     assert!(rt; storage == [3, 2, 9]);

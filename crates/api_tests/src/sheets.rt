@@ -84,7 +84,7 @@ fn shows(rt: &impl Abort, buffer: &[u8], text: &str) {
         .expect(rt, "so long a text");
     assert!(rt; sheet == text.as_bytes());
     for byte in behind {
-        assert_eq!(rt; *byte, 0xa5);
+        assert!(rt; *byte == 0xa5);
     }
 }
 
@@ -104,7 +104,7 @@ fn of_each_kind(rt: HostRuntime) {
     ] {
         let mut buffer = [0xa5; 300];
         let answer = write(slots, serials, &report, &mut buffer);
-        assert_eq!(rt; answer, Ok(text.len()));
+        assert!(rt; answer == Ok(text.len()));
         shows(&rt, &buffer, text);
     }
 }
@@ -122,7 +122,7 @@ fn rooms(rt: HostRuntime) {
     ] {
         let mut buffer = [0xa5; 300];
         let front = buffer.get_mut(..room).expect(&rt, "so much room");
-        assert_eq!(rt; write(&SLOTS, &SERIALS, &REPORT, front), answer, "{room}");
+        assert!(rt; write(&SLOTS, &SERIALS, &REPORT, front) == answer, "{room}");
         shows(&rt, &buffer, text);
     }
 }
@@ -133,7 +133,7 @@ fn a_million_slots(rt: HostRuntime) {
     let slots = vec![in alloc; SLOTS[0]; 1_000_000].expect(&rt, "memory");
     let mut buffer = vec![in alloc; 0xa5; LENGTH + 1].expect(&rt, "memory");
     let answer = write(&slots, &[], &REPORT, &mut buffer);
-    assert_eq!(rt; answer, Ok(LENGTH));
+    assert!(rt; answer == Ok(LENGTH));
     let tail = buffer
         .get(LENGTH - TAIL.len()..)
         .expect(&rt, "so long a sheet");

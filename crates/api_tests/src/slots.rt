@@ -24,13 +24,13 @@ fn given_up(rt: HostRuntime) {
     let mut bench = bench_over(&mut table);
     let slot = clash(&rt, open(&mut bench, 2, &mut lists));
     let given_up = lone(&rt, slot.split(&mut bench, &COINS, &mut lists)).give_up();
-    assert_eq!(rt; given_up.serial, SERIALS[0]);
-    assert_eq!(rt; given_up.counts, SPLIT_ONCE);
+    assert!(rt; given_up.serial == SERIALS[0]);
+    assert!(rt; given_up.counts == SPLIT_ONCE);
     assert!(rt; lists.slots.as_slice() == &SLOTS[..2]);
     assert!(rt; lists.serials.as_slice().is_empty());
     let [first, second] = table;
-    assert_eq!(rt; (first.state, first.counter), (State::Singulation, 0));
-    assert_eq!(rt; (second.state, second.counter), (State::Singulation, 1));
+    assert!(rt; (first.state, first.counter) == (State::Singulation, 0));
+    assert!(rt; (second.state, second.counter) == (State::Singulation, 1));
 }
 
 // The slot is handed back, all else is as it was, and the slot can be split by good rows afterwards.
@@ -46,15 +46,15 @@ fn no_rows_and_65_are_refused(rt: HostRuntime) {
         let Err(Unsplit::Refused(declined)) = result else {
             panic!(rt; "no refusal");
         };
-        assert_eq!(rt; declined.refusal, Refusal::Coins);
-        assert_eq!(rt; (lists.slots.len(), lists.serials.len()), (1, 0));
+        assert!(rt; declined.refusal == Refusal::Coins);
+        assert!(rt; (lists.slots.len(), lists.serials.len()) == (1, 0));
         assert!(rt; table == before);
         slot = declined.given;
     }
     let result = slot.split(&mut bench_over(&mut table), &[2; 64], &mut lists);
     let given_up = lone(&rt, result).give_up();
-    assert_eq!(rt; given_up.serial, SERIALS[0]);
-    assert_eq!(rt; given_up.counts, SPLIT_ONCE);
+    assert!(rt; given_up.serial == SERIALS[0]);
+    assert!(rt; given_up.counts == SPLIT_ONCE);
     assert!(rt; lists.slots.as_slice() == &SLOTS[..2]);
 }
 
@@ -76,7 +76,7 @@ fn other_rows_at_each_split(rt: HostRuntime) {
         clash: 3,
         commands: 4,
     };
-    assert_eq!(rt; given_up.counts, counts);
+    assert!(rt; given_up.counts == counts);
 }
 
 // What is listed goes into the lists that each call is given.
@@ -90,6 +90,6 @@ fn into_other_lists(rt: HostRuntime) {
     let slot = clash(&rt, open(&mut bench, 100, &mut lists));
     let slot = lone(&rt, slot.split(&mut bench, &COINS, &mut other));
     assert!(rt; slot.read(&mut bench, &mut other).is_ok());
-    assert_eq!(rt; [slots[0], later[0]], [SLOTS[0], SLOTS[1]]);
-    assert_eq!(rt; read, [SERIALS[0]]);
+    assert!(rt; [slots[0], later[0]] == [SLOTS[0], SLOTS[1]]);
+    assert!(rt; read == [SERIALS[0]]);
 }

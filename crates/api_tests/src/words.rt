@@ -5,6 +5,7 @@ use record::WriteMark;
 use reply::Reply;
 use spelling::hexadecimal::{Hex, read_array, read_byte, read_bytes};
 use spelling::misspelt::Misspelt;
+use spelling::misspelt::Misspelt::{Bit, Bytes, Mark};
 use spelling::sample::{OWN, sample_tag, to_tag};
 use spelling::sent::{framed, replied};
 use spelling::words::{no_word, read_bit, read_locks, read_mark, read_permission, word};
@@ -13,25 +14,20 @@ use spelling::words::{no_word, read_bit, read_locks, read_mark, read_permission,
 #[test]
 fn bytes_are_read(rt: HostRuntime) {
     for (text, bytes) in [("00FFA9", &[0x00, 0xff, 0xa9][..]), ("-", &[]), ("", &[])] {
-        assert_eq!(rt;
-            read_bytes(rt.alloc(), text)
-                .expect(&rt, "memory")
-                .as_slice(),
-            bytes,
-            "{text}"
-        );
+        let read = read_bytes(rt.alloc(), text).expect(&rt, "memory");
+        assert!(rt; read.as_slice() == bytes, "{text}");
     }
     for text in [
         "0", "000", "0G", "0x", "+1", " 0", "--", "-0", "ff", "Ff", "fF", "a0", "0a", "00fF",
     ] {
         assert!(rt; read_bytes(rt.alloc(), text).is_err(), "{text}");
-        assert_eq!(rt; read_byte(text), Err(Misspelt::Bytes), "{text}");
+        assert!(rt; read_byte(text) == Err(Misspelt::Bytes), "{text}");
     }
     for text in ["", "-", "0001", "00010203", "0001fe"] {
-        assert_eq!(rt; read_array::<3>(text), Err(Misspelt::Bytes), "{text}");
+        assert!(rt; read_array::<3>(text) == Err(Misspelt::Bytes), "{text}");
     }
-    assert_eq!(rt; read_array::<3>("0001FE"), Ok([0x00, 0x01, 0xfe]));
-    assert_eq!(rt; read_byte("9C"), Ok(0x9c));
+    assert!(rt; read_array::<3>("0001FE") == Ok([0x00, 0x01, 0xfe]));
+    assert!(rt; read_byte("9C") == Ok(0x9c));
 }
 
 #[test]
@@ -41,44 +37,57 @@ fn bytes_are_shown(rt: HostRuntime) {
         (&[], "-", "-"),
     ] {
         let shown = format!(in rt.alloc(); "{}", Hex::new(bytes)).expect(&rt, "memory");
-        assert_eq!(rt; shown.as_str(), plain);
+        assert!(rt; shown.as_str() == plain);
         let shown = format!(in rt.alloc(); "{}", Hex::spaced(bytes)).expect(&rt, "memory");
-        assert_eq!(rt; shown.as_str(), spaced);
+        assert!(rt; shown.as_str() == spaced);
+    }
+}
+
+#[test]
+fn words_that_are_there(rt: HostRuntime) {
+    for (next, there, none) in [
+        (Some("a"), Ok("a"), Err(Misspelt::Surplus)),
+        (None, Err(Misspelt::Missing), Ok(())),
+    ] {
+        assert!(rt; word(next) == there);
+        assert!(rt; no_word(next) == none);
     }
 }
 
 #[test]
 fn words_of_a_record(rt: HostRuntime) {
-    assert_eq!(rt; word(Some("a")), Ok("a"));
-    assert_eq!(rt; word(None), Err(Misspelt::Missing));
-    assert_eq!(rt; no_word(None), Ok(()));
-    assert_eq!(rt; no_word(Some("a")), Err(Misspelt::Surplus));
-    assert_eq!(rt; read_bit("1"), Ok(true));
-    assert_eq!(rt; read_bit("0"), Ok(false));
-    assert_eq!(rt; read_bit("2"), Err(Misspelt::Bit));
-    assert_eq!(rt; read_mark("2"), Ok(WriteMark::Fresh));
-    assert_eq!(rt; read_mark("02"), Err(Misspelt::Mark));
-    assert_eq!(rt; read_mark("+2"), Err(Misspelt::Mark));
-    assert_eq!(rt; read_permission("-"), Ok(None));
-    assert_eq!(rt; read_permission("37"), Ok(Some(0x37)));
-    assert_eq!(rt; read_permission("3"), Err(Misspelt::Bytes));
+    for (text, bit, mark, permission) in [
+        ("0", Ok(false), Ok(WriteMark::Clear), Err(Bytes)),
+        ("1", Ok(true), Ok(WriteMark::Fading), Err(Bytes)),
+        ("2", Err(Bit), Ok(WriteMark::Fresh), Err(Bytes)),
+        ("3", Err(Bit), Err(Mark), Err(Bytes)),
+        ("+2", Err(Bit), Err(Mark), Err(Bytes)),
+        ("02", Err(Bit), Err(Mark), Ok(Some(0x02))),
+        ("37", Err(Bit), Err(Mark), Ok(Some(0x37))),
+        ("-", Err(Bit), Err(Mark), Ok(None)),
+    ] {
+        assert!(rt; read_bit(text) == bit, "{text}");
+        assert!(rt; read_mark(text) == mark, "{text}");
+        assert!(rt; read_permission(text) == permission, "{text}");
+    }
 }
 
 #[test]
 fn locks_from_the_highest_bit_on(rt: HostRuntime) {
-    let locks = read_locks("C0000000000001").expect(&rt, "memory");
+    let locks = read_locks("C0000000000001").expect(&rt, "locks");
     for (address, is_locked) in locks.iter().enumerate() {
-        assert_eq!(rt; *is_locked, address < 2 || address == 55, "{address}");
+        let wanted = address < 2 || address == 55;
+        assert!(rt; *is_locked == wanted, "{address}");
     }
-    assert_eq!(rt; read_locks("C00000000000"), Err(Misspelt::Bytes));
+    assert!(rt; read_locks("C00000000000") == Err(Misspelt::Bytes));
 }
 
 #[test]
 fn errors(rt: HostRuntime) {
-    assert_eq!(rt; Misspelt::from(FromHexError::OddLength), Misspelt::Bytes);
-    assert_eq!(rt; Misspelt::from(FromHexError::OutOfMemory), Misspelt::Memory);
+    assert!(rt; Misspelt::from(FromHexError::OddLength) == Misspelt::Bytes);
+    assert!(rt; Misspelt::from(FromHexError::OutOfMemory) == Misspelt::Memory);
     let shown = format!(in rt.alloc(); "{}", Misspelt::Bit).expect(&rt, "memory");
-    assert_eq!(rt; shown.as_str(), "neither 0 nor 1");
+    assert!(rt; shown.as_str() == "neither 0 nor 1");
 }
 
 #[test]
@@ -90,16 +99,12 @@ fn frames(rt: HostRuntime) {
         (0x00, &OWN[..], &select[..]),
         (0x08, &[], &[0x08, 0x9f, 0x07]),
     ] {
-        assert_eq!(rt;
-            framed(rt.alloc(), code, parameters)
-                .expect(&rt, "memory")
-                .as_slice(),
-            frame
-        );
+        let made = framed(rt.alloc(), code, parameters).expect(&rt, "memory");
+        assert!(rt; made.as_slice() == frame);
     }
     for (code, refusal) in [(0x01, Refusal::Code), (0x00, Refusal::Length)] {
         let answer = framed(rt.alloc(), code, &[]).err();
-        assert_eq!(rt; answer, Some(Misspelt::Refused(refusal)));
+        assert!(rt; answer == Some(Misspelt::Refused(refusal)));
     }
 }
 
@@ -107,24 +112,20 @@ fn frames(rt: HostRuntime) {
 fn what_a_tag_is_sent_and_replies(rt: HostRuntime) {
     let parameters = to_tag(rt.alloc(), &[0x08, 0x0f]).expect(&rt, "memory");
     let expected = [0xef, 0x04, 0x02, 0x00, 0x00, 0x00, 0x00, 0x01, 0x08, 0x0f];
-    assert_eq!(rt; parameters.as_slice(), expected.as_slice());
+    assert!(rt; parameters.as_slice() == expected.as_slice());
     let serial = [0xef, 0x04, 0x02, 0x00, 0x00, 0x00, 0x00, 0x01, 0x3d, 0x9d];
     for (reply, bytes) in [
         (Some(Reply::Serial), &serial[..]),
         (Some(Reply::Status(0x00)), &[0x00, 0x1e, 0x0f]),
         (None, &[]),
     ] {
-        assert_eq!(rt;
-            replied(rt.alloc(), &sample_tag(), reply)
-                .expect(&rt, "memory")
-                .as_slice(),
-            bytes
-        );
+        let written = replied(rt.alloc(), &sample_tag(), reply).expect(&rt, "memory");
+        assert!(rt; written.as_slice() == bytes);
     }
     let longest = Reply::Memory {
         address: 0x00,
         more: 0xff,
     };
     let reply = replied(rt.alloc(), &sample_tag(), Some(longest)).expect(&rt, "memory");
-    assert_eq!(rt; reply.len(), 258);
+    assert!(rt; reply.len() == 258);
 }
