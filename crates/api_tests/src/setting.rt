@@ -81,7 +81,7 @@ fn go_on(slot: Slot, field: &mut Bench<'_>, lists: &mut Lists<'_>) -> Result<Lef
     }
 }
 
-// Sweeps slot by slot until the sweep ends: the end's number, and what is counted.
+// Sweeps slot by slot until the sweep ends.
 pub(crate) fn work(
     rt: &impl Abort,
     field: &mut Bench<'_>,
