@@ -2,7 +2,6 @@
 use crate::setting::{SERIALS, SLOTS};
 use field::hearing::Hearing;
 use protocol::command::Command;
-use protocol::refusal::Refusal;
 use sheet::write;
 use slot::counts::Counts;
 use slot::ending::{End, Report, Stop};
@@ -105,24 +104,6 @@ fn of_each_kind(rt: HostRuntime) {
         let mut buffer = [0xa5; 300];
         let answer = write(slots, serials, &report, &mut buffer);
         assert!(rt; answer == Ok(text.len()));
-        shows(&rt, &buffer, text);
-    }
-}
-
-// Room for the lists, and not for the last line, is too little, and so is one byte less than the sheet.
-#[test]
-fn rooms(rt: HostRuntime) {
-    for (room, answer, text) in [
-        (0, Err(Refusal::Buffer), ""),
-        (141, Err(Refusal::Buffer), ""),
-        (171, Err(Refusal::Buffer), ""),
-        (172, Ok(172), SHEET),
-        (173, Ok(172), SHEET),
-        (300, Ok(172), SHEET),
-    ] {
-        let mut buffer = [0xa5; 300];
-        let front = buffer.get_mut(..room).expect(&rt, "so much room");
-        assert!(rt; write(&SLOTS, &SERIALS, &REPORT, front) == answer, "{room}");
         shows(&rt, &buffer, text);
     }
 }
