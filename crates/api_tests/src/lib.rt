@@ -1,4 +1,4 @@
-// Tests of lists, of sweeps slot by slot, of printed sheets and of spelling, on values worked out by hand.
+// Tests of what only calls show, on values worked out by hand: lists, slots of a sweep, a long sheet, words.
 #![tactic(auto)]
 
 #[cfg(test)]

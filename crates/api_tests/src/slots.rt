@@ -24,7 +24,7 @@ fn given_up(rt: HostRuntime) {
     let mut bench = bench_over(&mut table);
     let slot = clash(&rt, open(&mut bench, 2, &mut lists));
     let given_up = lone(&rt, slot.split(&mut bench, &COINS, &mut lists)).give_up();
-    assert!(rt; given_up.serial == SERIALS[0]);
+    assert!(rt; given_up.serial == FIRST);
     assert!(rt; given_up.counts == SPLIT_ONCE);
     assert!(rt; lists.slots.as_slice() == &SLOTS[..2]);
     assert!(rt; lists.serials.as_slice().is_empty());
@@ -53,7 +53,7 @@ fn no_rows_and_65_are_refused(rt: HostRuntime) {
     }
     let result = slot.split(&mut bench_over(&mut table), &[2; 64], &mut lists);
     let given_up = lone(&rt, result).give_up();
-    assert!(rt; given_up.serial == SERIALS[0]);
+    assert!(rt; given_up.serial == FIRST);
     assert!(rt; given_up.counts == SPLIT_ONCE);
     assert!(rt; lists.slots.as_slice() == &SLOTS[..2]);
 }
@@ -91,5 +91,5 @@ fn into_other_lists(rt: HostRuntime) {
     let slot = lone(&rt, slot.split(&mut bench, &COINS, &mut other));
     assert!(rt; slot.read(&mut bench, &mut other).is_ok());
     assert!(rt; [slots[0], later[0]] == [SLOTS[0], SLOTS[1]]);
-    assert!(rt; read == [SERIALS[0]]);
+    assert!(rt; read == [FIRST]);
 }

@@ -53,5 +53,9 @@ impl fmt::Display for Bits<'_> {
 }
 
 fn packed(bits: &[bool]) -> u8 {
-    bits.iter().fold(0, |byte, bit| byte << 1 | u8::from(*bit))
+    let mut byte = 0;
+    for bit in bits {
+        byte = byte << 1 | u8::from(*bit);
+    }
+    byte
 }
