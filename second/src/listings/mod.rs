@@ -12,12 +12,13 @@ mod protocol;
 mod record;
 mod reply;
 mod sheet;
+mod spelling;
 mod sweep;
 mod tag;
 mod term;
 
 /// Each crate that has such a file, with the file.
-pub fn files() -> [(&'static str, String); 12] {
+pub fn files() -> [(&'static str, String); 13] {
     [
         ("bench", bench::file()),
         ("crc", crc::file()),
@@ -29,6 +30,7 @@ pub fn files() -> [(&'static str, String); 12] {
         ("record", record::file()),
         ("reply", reply::file()),
         ("sheet", sheet::file()),
+        ("spelling", spelling::file()),
         ("sweep", sweep::file()),
         ("tag", tag::file()),
     ]
