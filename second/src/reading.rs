@@ -148,7 +148,7 @@ fn number<T: FromStr>(word: &str) -> Option<T> {
     word.parse().ok()
 }
 
-fn row(word: &str) -> Option<u64> {
+pub fn row(word: &str) -> Option<u64> {
     u64::from_str_radix(word, 16).ok()
 }
 

@@ -4,6 +4,7 @@ mod bench;
 mod crc;
 mod crowd;
 mod field;
+mod field_cases;
 mod frame;
 mod layers;
 mod listing;
@@ -18,11 +19,12 @@ mod tag;
 mod term;
 
 /// Each crate that has such a file, with the file.
-pub fn files() -> [(&'static str, String); 13] {
+pub fn files() -> [(&'static str, String); 14] {
     [
         ("bench", bench::file()),
         ("crc", crc::file()),
         ("field", field::file()),
+        ("field_cases", field_cases::file()),
         ("frame", frame::file()),
         ("layers", layers::file()),
         ("panel", panel::file()),
