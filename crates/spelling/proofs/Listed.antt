@@ -1,5 +1,5 @@
 -- The listings, computed. What a text spells is what it decodes to. Assumes nothing.
-use Rattle.std.proofs.Common.{◌≡◌, ℕ, false, Bool, List, [], ◌∷◌, Option, Some, None, Ok, inl, inr, refl}
+use Rattle.std.proofs.Common.{◌≡◌, ℕ, false, Bool, List, [], Ok, inl, inr, refl}
 use Rattle.std.specs.Fmt.{digits}
 use Rattle.std.specs.Result.{result_unwrap_or}
 use Rattle.crc.specs.Check.{moved, bit_taken, bits, byte_taken, sealed}
