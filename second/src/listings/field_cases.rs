@@ -1,5 +1,7 @@
 //! Fingerprints, the words of questions to a field, and the tags of fields that words tell.
 
+use std::slice;
+
 use super::crowd::{numbered, selected, tags_in, tags_term};
 use super::listing::{file as file_of, row, Listing};
 use super::term::{bytes, number, plain, stretch, tag, text, wide, Term};
@@ -106,7 +108,7 @@ fn of_tags() -> Listing {
             taken(&[]),
             taken(&[plain()]),
             taken(&[permitted]),
-            taken(&[used.clone()]),
+            taken(slice::from_ref(&used)),
             taken(&[used.clone(), answering.clone()]),
             taken(&[answering, used]),
         ],
