@@ -110,7 +110,7 @@ impl Play {
     }
 }
 
-fn take_in(digest: &mut Fingerprint, tag: &Tag) {
+pub fn take_in(digest: &mut Fingerprint, tag: &Tag) {
     let locks: [u8; MEMORY_LENGTH] =
         std::array::from_fn(|address| u8::from(tag.locks.locked(address)));
     digest.take(&tag.memory);

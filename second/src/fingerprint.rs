@@ -19,6 +19,10 @@ impl Fingerprint {
         }
     }
 
+    pub fn value(&self) -> u64 {
+        self.0
+    }
+
     pub fn of(bytes: &[u8]) -> Fingerprint {
         let mut fingerprint = Fingerprint::new();
         fingerprint.take(bytes);

@@ -109,12 +109,21 @@ fn condition(parts: &[&str]) -> Option<Condition> {
         state: state_of(state)?,
         id_flag: bit(id_flag)?,
         counter: byte(counter)?,
-        mark: number(mark).filter(|mark| *mark <= 2)?,
-        permission: match permission {
-            "-" => None,
-            address => Some(byte(address)?),
-        },
+        mark: mark_of(mark)?,
+        permission: permission_of(permission)?,
     })
+}
+
+pub fn mark_of(word: &str) -> Option<u8> {
+    number(word).filter(|mark| *mark <= 2)
+}
+
+/// `-` is none.
+pub fn permission_of(word: &str) -> Option<Option<u8>> {
+    match word {
+        "-" => Some(None),
+        address => byte(address).map(Some),
+    }
 }
 
 fn state_of(word: &str) -> Option<State> {
@@ -123,11 +132,11 @@ fn state_of(word: &str) -> Option<State> {
         .find(|state| state.to_string() == word)
 }
 
-fn locks(word: &str) -> Option<Locks> {
+pub fn locks(word: &str) -> Option<Locks> {
     Some(Locks(bytes(word)?.try_into().ok()?))
 }
 
-fn bit(word: &str) -> Option<bool> {
+pub fn bit(word: &str) -> Option<bool> {
     match word {
         "0" => Some(false),
         "1" => Some(true),
@@ -139,11 +148,11 @@ fn number<T: FromStr>(word: &str) -> Option<T> {
     word.parse().ok()
 }
 
-fn row(word: &str) -> Option<u64> {
+pub fn row(word: &str) -> Option<u64> {
     u64::from_str_radix(word, 16).ok()
 }
 
-fn byte(word: &str) -> Option<u8> {
+pub fn byte(word: &str) -> Option<u8> {
     match bytes(word)?[..] {
         [byte] => Some(byte),
         _ => None,
@@ -151,7 +160,7 @@ fn byte(word: &str) -> Option<u8> {
 }
 
 /// `-` is no bytes at all.
-fn bytes(word: &str) -> Option<Vec<u8>> {
+pub fn bytes(word: &str) -> Option<Vec<u8>> {
     if word == "-" {
         return Some(Vec::new());
     }

@@ -1,4 +1,5 @@
 pub mod Builds
 pub mod Fingerprints
+pub mod Listings
 pub mod Nestings
 pub mod Questions

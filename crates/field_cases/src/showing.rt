@@ -2,6 +2,7 @@
 ghost use Rattle.std.specs.Prelude.{◌≡◌, ◌≢◌, ℕ, List, [], ◌∷◌, ◌++◌, map, fold, replicate};
 ghost use Rattle.std.specs.Int.{from_bool};
 ghost use Rattle.field_cases.specs.Fingerprints.{blank, byte_taken, fingerprint, tag_taken, tags_fingerprint};
+ghost use Rattle.field_cases.specs.Listings.{BytesTaken, TagsTaken};
 
 use field::field::Field;
 use record::{SIZE, Tag};
@@ -88,15 +89,19 @@ impl Fingerprint {
     }
 }
 
+#[tactic(auto, using(crate::proofs::Listed::bytes_taken))]
 pub fn of_bytes(bytes: &[u8]) -> Fingerprint
-    ensures { result ≡ fingerprint bytes.now }
+    ensures fingerprint { result ≡ fingerprint bytes.now }
+    ensures worked { BytesTaken }
 {
     Fingerprint::new().with_bytes(bytes)
 }
 
 // Of all records of a field, by place.
+#[tactic(auto, using(crate::proofs::Listed::tags_taken))]
 pub fn of_tags<F: Field>(field: &F) -> Fingerprint
-    ensures { result ≡ tags_fingerprint (F.Field.tags field.now) }
+    ensures fingerprint { result ≡ tags_fingerprint (F.Field.tags field.now) }
+    ensures worked { TagsTaken }
 {
     let mut fingerprint = Fingerprint::new();
     for place in 0..field.places() {

@@ -1,3 +1,4 @@
 pub mod Capitals
+pub mod Listed
 pub mod Made
 pub mod Shown

@@ -1,4 +1,5 @@
 pub mod Hexadecimal
+pub mod Listings
 pub mod Misspellings
 pub mod Samples
 pub mod Sent

@@ -4,6 +4,7 @@ mod bench;
 mod crc;
 mod crowd;
 mod field;
+mod field_cases;
 mod frame;
 mod layers;
 mod listing;
@@ -12,16 +13,18 @@ mod protocol;
 mod record;
 mod reply;
 mod sheet;
+mod spelling;
 mod sweep;
 mod tag;
 mod term;
 
 /// Each crate that has such a file, with the file.
-pub fn files() -> [(&'static str, String); 12] {
+pub fn files() -> [(&'static str, String); 14] {
     [
         ("bench", bench::file()),
         ("crc", crc::file()),
         ("field", field::file()),
+        ("field_cases", field_cases::file()),
         ("frame", frame::file()),
         ("layers", layers::file()),
         ("panel", panel::file()),
@@ -29,6 +32,7 @@ pub fn files() -> [(&'static str, String); 12] {
         ("record", record::file()),
         ("reply", reply::file()),
         ("sheet", sheet::file()),
+        ("spelling", spelling::file()),
         ("sweep", sweep::file()),
         ("tag", tag::file()),
     ]

@@ -117,28 +117,31 @@ fn parameters() -> Listing {
     }
 }
 
+/// The refusals by the words for them, with their numbers.
+pub const REFUSALS: [(&str, u8); 8] = [
+    ("Stub", frame::Refusal::TooShort as u8),
+    ("Check", frame::Refusal::WrongCheck as u8),
+    ("Code", frame::Refusal::UnknownCode as u8),
+    ("Length", frame::Refusal::WrongLength as u8),
+    ("Buffer", frame::Refusal::NoRoom as u8),
+    ("Crowd", field::Refusal::TooManyPlaces as u8),
+    ("Coins", sweep::Refusal::WrongNumberOfRows as u8),
+    ("Period", field::Refusal::NoPeriod as u8),
+];
+
+/// A refusal by the word for it.
+pub fn refusal(word: &str) -> Term {
+    Term::word(format!("refusal.{word}"))
+}
+
 fn refusals() -> Listing {
-    let refusals = [
-        ("Stub", frame::Refusal::TooShort as u8),
-        ("Check", frame::Refusal::WrongCheck as u8),
-        ("Code", frame::Refusal::UnknownCode as u8),
-        ("Length", frame::Refusal::WrongLength as u8),
-        ("Buffer", frame::Refusal::NoRoom as u8),
-        ("Crowd", field::Refusal::TooManyPlaces as u8),
-        ("Coins", sweep::Refusal::WrongNumberOfRows as u8),
-        ("Period", field::Refusal::NoPeriod as u8),
-    ];
     let listed = |&(word, of_it): &(&str, u8)| {
-        row(&[
-            Term::word(format!("refusal.{word}")),
-            number(of_it),
-            text(&word.to_lowercase()),
-        ])
+        row(&[refusal(word), number(of_it), text(&word.to_lowercase())])
     };
     Listing {
         about: "The refusals, with their numbers and names.",
         name: "RefusalsListed",
         law: "{X = Refusal × ℕ × List ℕ} (λ x. (number_of x.0 ≡ x.1) × (refusal_name x.0 ≡ x.2))",
-        rows: refusals.iter().map(listed).collect(),
+        rows: REFUSALS.iter().map(listed).collect(),
     }
 }

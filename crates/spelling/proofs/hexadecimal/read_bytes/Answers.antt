@@ -19,5 +19,5 @@ returns-in_err-decode-clause-err c =
 
 pub returns-clause-ok : goal.returns-clause-ok
 returns-clause-ok c =
-    let small : has_small c.args.text.now ≡ false = sym c.has_small.ensures ∙ c.if-has_small.false in
+    let small : has_small c.args.text.now ≡ false = sym c.has_small.ensures.small ∙ c.if-has_small.false in
     inl (spells_decoded c.args.text.now c.in_ok-decode.field-0.items small c.in_ok-decode.ensures.ok)

@@ -1,0 +1,356 @@
+//! What texts spell, how bytes are shown, and what is sent.
+
+use super::listing::{file as file_of, row, Listing};
+use super::protocol::{refusal, REFUSALS};
+use super::term::{
+    byte, bytes, locks, mark, maybe, number, plain, stretch, tag, text, truth, Term,
+};
+use crate::frame::{make, LONGEST};
+use crate::question::hex;
+use crate::reading;
+use crate::tag::{Reply, Tag, MEMORY_LENGTH};
+
+const HEAD: &str = "\
+-- What is spelt and sent, by the second implementation, which wrote this file. Assumes nothing.
+use Rattle.std.specs.Prelude.{◌≡◌, ℕ, Bool, true, false, List, [], ◌∷◌, ◌++◌, replicate, Option, Some, None, codes}
+use Rattle.std.specs.List.{AllByRecursion, range_with_len}
+use Rattle.hex.specs.declared.error.FromHexError.{FromHexError}
+use Rattle.hex.specs.declared.error.FromHexError.TheVariants.{InvalidHexCharacter, OddLength, InvalidStringLength, OutOfMemory}
+use Rattle.protocol.specs.declared.refusal.Refusal.TheVariants as refusal
+use Rattle.record.specs.declared.State.TheVariants.{Ready}
+use Rattle.record.specs.declared.Tag.{Tag}
+use Rattle.record.specs.declared.WriteMark.{WriteMark}
+use Rattle.record.specs.declared.WriteMark.TheVariants.{Clear, Fading, Fresh}
+use Rattle.record.specs.Listings.{plain, locked_in, first_two, tag_with}
+use Rattle.reply.specs.declared.Reply.{Reply}
+use Rattle.reply.specs.declared.Reply.TheVariants.{Serial, Memory, Status}
+use Rattle.spelling.specs.declared.misspelt.Misspelt.{Misspelt}
+use Rattle.spelling.specs.declared.misspelt.Misspelt.TheVariants as misspelt
+use Rattle.spelling.specs.Hexadecimal.{shown, has_small, SpellsBytes, SpellsArray, SpellsByte}
+use Rattle.spelling.specs.Misspellings.{misspelt_text, line_text, of_hex}
+use Rattle.spelling.specs.Samples.{numbered_serial, numbered_memory, sample_serial, sample_memory}
+use Rattle.spelling.specs.Sent.{IsFrame, IsNoFrame, reply_bytes}
+use Rattle.spelling.specs.Words.{SpellsBit, SpellsMark, SpellsPermission, SpellsLocks}
+";
+
+pub fn file() -> String {
+    file_of(
+        HEAD,
+        &[
+            shown_bytes(),
+            small_letters(),
+            spelt_bytes(),
+            spelt_arrays(),
+            spelt_single(),
+            spelt_bits(),
+            spelt_marks(),
+            spelt_permissions(),
+            spelt_locks(),
+            errors(),
+            errors_of_hex(),
+            lines(),
+            numbered_tags(),
+            sample(),
+            frames(),
+            no_frames(),
+            replies(),
+        ],
+    )
+}
+
+/// A text with what it spells.
+fn spelt<T>(word: &str, read: impl Fn(&str) -> Option<T>, term: impl Fn(T) -> Term) -> String {
+    let value = read(word).expect("the text spells something");
+    row(&[text(word), term(value)])
+}
+
+fn shown_bytes() -> Listing {
+    let shown = |bytes: &[u8], between: &str| {
+        if bytes.is_empty() {
+            return hex(bytes);
+        }
+        let each: Vec<String> = bytes.iter().map(|&byte| hex(&[byte])).collect();
+        each.join(between)
+    };
+    let mut rows = Vec::new();
+    for between in ["", " "] {
+        for all in [
+            &[] as &[u8],
+            &[0x00],
+            &[0x0F, 0xFF],
+            &[0x01, 0x23, 0x45, 0x67, 0x89, 0xAB, 0xCD, 0xEF],
+        ] {
+            rows.push(row(&[
+                text(between),
+                bytes(all),
+                text(&shown(all, between)),
+            ]));
+        }
+    }
+    Listing {
+        about: "What stands between bytes, the bytes, and how they are shown.",
+        name: "ShownBytes",
+        law: "{X = List ℕ × List ℕ × List ℕ} (λ x. shown x.0 x.1 ≡ x.2)",
+        rows,
+    }
+}
+
+fn small_letters() -> Listing {
+    let listed = |word: &&str| {
+        let small = word.chars().any(|letter| letter.is_ascii_lowercase());
+        row(&[text(word), truth(small)])
+    };
+    Listing {
+        about: "Texts, and whether they have small letters.",
+        name: "SmallLetters",
+        law: "{X = List ℕ × Bool} (λ x. has_small x.0 ≡ x.1)",
+        rows: ["", "-", "09AF", "AZ@[", "a", "z", "`{", "0Fa"]
+            .iter()
+            .map(listed)
+            .collect(),
+    }
+}
+
+fn spelt_bytes() -> Listing {
+    Listing {
+        about: "Texts, and the bytes that they spell.",
+        name: "SpeltBytes",
+        law: "{X = List ℕ × List ℕ} (λ x. SpellsBytes x.0 x.1)",
+        rows: ["-", "", "00", "0F", "FF", "0123456789ABCDEF"]
+            .map(|word| spelt(word, reading::bytes, |all| bytes(&all)))
+            .to_vec(),
+    }
+}
+
+fn spelt_arrays() -> Listing {
+    let listed = |word: &str| {
+        let all = reading::bytes(word).expect("the text spells bytes");
+        row(&[number(all.len()), text(word), bytes(&all)])
+    };
+    Listing {
+        about: "Numbers of bytes, and texts that spell so many.",
+        name: "SpeltArrays",
+        law: "{X = ℕ × List ℕ × List ℕ} (λ x. SpellsArray x.0 x.1 x.2)",
+        rows: ["", "FF00", "C0000000000001"].map(listed).to_vec(),
+    }
+}
+
+fn spelt_single() -> Listing {
+    Listing {
+        about: "Texts, and the one byte that they spell.",
+        name: "SpeltSingle",
+        law: "{X = List ℕ × ℕ} (λ x. SpellsByte x.0 x.1)",
+        rows: ["00", "0A", "A0", "FF"]
+            .map(|word| spelt(word, reading::byte, byte))
+            .to_vec(),
+    }
+}
+
+fn spelt_bits() -> Listing {
+    Listing {
+        about: "The two texts that spell a bit.",
+        name: "SpeltBits",
+        law: "{X = List ℕ × Bool} (λ x. SpellsBit x.0 x.1)",
+        rows: ["0", "1"]
+            .map(|word| spelt(word, reading::bit, truth))
+            .to_vec(),
+    }
+}
+
+fn spelt_marks() -> Listing {
+    Listing {
+        about: "The three texts that spell a write mark.",
+        name: "SpeltMarks",
+        law: "{X = List ℕ × WriteMark} (λ x. SpellsMark x.0 x.1)",
+        rows: ["0", "1", "2"]
+            .map(|word| spelt(word, reading::mark_of, mark))
+            .to_vec(),
+    }
+}
+
+fn spelt_permissions() -> Listing {
+    let permission = |address: Option<u8>| maybe(address.map(byte));
+    Listing {
+        about: "Texts, and the permission that they spell.",
+        name: "SpeltPermissions",
+        law: "{X = List ℕ × Option ℕ} (λ x. SpellsPermission x.0 x.1)",
+        rows: ["-", "00", "FF"]
+            .map(|word| spelt(word, reading::permission_of, permission))
+            .to_vec(),
+    }
+}
+
+fn spelt_locks() -> Listing {
+    Listing {
+        about: "Texts, and the locks that they spell: none, the first, the last, two where a byte begins, one in the middle, all.",
+        name: "SpeltLocks",
+        law: "{X = List ℕ × List Bool} (λ x. SpellsLocks x.0 x.1)",
+        rows: [
+            "00000000000000",
+            "80000000000000",
+            "00000000000001",
+            "01800000000000",
+            "00000010000000",
+            "FFFFFFFFFFFFFF",
+        ]
+        .map(|word| spelt(word, reading::locks, locks))
+        .to_vec(),
+    }
+}
+
+/// An error by its name, with what stands in it.
+fn misspelt(name: &str, parts: &[Term]) -> Term {
+    Term::call(&format!("misspelt.{name}"), parts)
+}
+
+fn errors() -> Listing {
+    let mut rows: Vec<String> = [
+        ("Bytes", "not the bytes that are wanted, in hexadecimal"),
+        ("Bit", "neither 0 nor 1"),
+        ("Mark", "no write mark"),
+        ("Missing", "a word is missing"),
+        ("Surplus", "a word too many"),
+        ("Memory", "out of memory"),
+    ]
+    .map(|(name, told)| row(&[misspelt(name, &[]), text(told)]))
+    .to_vec();
+    // Those of making.
+    rows.extend(["Code", "Length", "Buffer"].map(|word| {
+        let told = text(&word.to_lowercase());
+        row(&[misspelt("Refused", &[refusal(word)]), told])
+    }));
+    Listing {
+        about: "The errors, and what is printed of each.",
+        name: "ErrorsListed",
+        law: "{X = Misspelt × List ℕ} (λ x. misspelt_text x.0 ≡ x.1)",
+        rows,
+    }
+}
+
+fn errors_of_hex() -> Listing {
+    let digit = Term::call("InvalidHexCharacter", &[number(u32::from('G')), number(1)]);
+    Listing {
+        about: "What the errors of reading hexadecimal are here.",
+        name: "ErrorsOfHex",
+        law: "{X = FromHexError × Misspelt} (λ x. of_hex x.0 ≡ x.1)",
+        rows: [
+            (digit, "Bytes"),
+            (Term::word("OddLength"), "Bytes"),
+            (Term::word("InvalidStringLength"), "Bytes"),
+            (Term::word("OutOfMemory"), "Memory"),
+        ]
+        .map(|(error, name)| row(&[error, misspelt(name, &[])]))
+        .to_vec(),
+    }
+}
+
+fn lines() -> Listing {
+    Listing {
+        about: "Numbers of lines, and what is printed of each.",
+        name: "LinesListed",
+        law: "{X = ℕ × List ℕ} (λ x. line_text x.0 ≡ x.1)",
+        rows: [1, 10, 4_294_967_295_u32]
+            .map(|line| row(&[number(line), text(&format!("line {line}"))]))
+            .to_vec(),
+    }
+}
+
+/// The serial number of a tag that the programs show, and its memory.
+fn numbered(last: u8) -> ([u8; 8], [u8; MEMORY_LENGTH]) {
+    let serial = [0xEF, 0x04, 0x02, 0, 0, 0, 0, last];
+    let mut memory = [0; MEMORY_LENGTH];
+    memory[..serial.len()].copy_from_slice(&serial);
+    (serial, memory)
+}
+
+fn numbered_tags() -> Listing {
+    let listed = |last: u8| {
+        let (serial, memory) = numbered(last);
+        row(&[byte(last), bytes(&serial), stretch(&memory)])
+    };
+    Listing {
+        about: "Last bytes of serial numbers, the serial numbers, and the memories of the tags.",
+        name: "NumberedTags",
+        law: "{X = ℕ × List ℕ × List ℕ} (λ x. (numbered_serial x.0 ≡ x.1) × (numbered_memory x.0 ≡ x.2))",
+        rows: [0x00, 0x01, 0xFF].map(listed).to_vec(),
+    }
+}
+
+fn sample() -> Listing {
+    let (serial, memory) = numbered(0x01);
+    Listing {
+        about: "The sample's serial number and its memory.",
+        name: "SampleListed",
+        law: "{X = List ℕ × List ℕ} (λ x. (sample_serial ≡ x.0) × (sample_memory ≡ x.1))",
+        rows: vec![row(&[bytes(&serial), stretch(&memory)])],
+    }
+}
+
+/// So many bytes, no two alike.
+fn counted(length: u8) -> Vec<u8> {
+    (0x30..0x30 + length).collect()
+}
+
+fn frames() -> Listing {
+    let made = |(code, length): (u8, u8)| {
+        let mut frame = vec![0; LONGEST];
+        let made = make(code, &counted(length), &mut frame);
+        frame.truncate(made.expect("the call makes a frame"));
+        row(&[byte(code), bytes(&counted(length)), bytes(&frame)])
+    };
+    Listing {
+        about: "Codes with parameters, and the frame of each.",
+        name: "FramesListed",
+        law: "{X = ℕ × List ℕ × List ℕ} (λ x. IsFrame x.0 x.1 x.2)",
+        rows: [(0x09, 0), (0x00, 10), (0x1B, 14)].map(made).to_vec(),
+    }
+}
+
+fn no_frames() -> Listing {
+    let refused = |(code, length): (u8, u8)| {
+        let made = make(code, &counted(length), &mut [0; LONGEST]);
+        let number = made.expect_err("the call makes no frame") as u8;
+        let (word, _) = REFUSALS
+            .into_iter()
+            .find(|(_, of_it)| *of_it == number)
+            .expect("each refusal has a word");
+        let error = misspelt("Refused", &[refusal(word)]);
+        row(&[byte(code), bytes(&counted(length)), error])
+    };
+    Listing {
+        about: "Codes with parameters that make no frame, and the error of each.",
+        name: "NoFramesListed",
+        law: "{X = ℕ × List ℕ × Misspelt} (λ x. IsNoFrame x.0 x.1 x.2)",
+        rows: [(0x01, 0), (0x09, 1), (0x1B, 15)].map(refused).to_vec(),
+    }
+}
+
+fn replies() -> Listing {
+    let sent = |teller: &Tag, told: Option<(Term, Reply)>| {
+        let sent = told.as_ref().map(|&(_, reply)| teller.written(reply));
+        row(&[
+            tag(teller),
+            maybe(told.map(|(term, _)| term)),
+            stretch(&sent.unwrap_or_default()),
+        ])
+    };
+    let memory = |address: u8, length: u16| {
+        let term = Term::call("Memory", &[byte(address), number(length - 1)]);
+        (term, Reply::Memory { address, length })
+    };
+    let status = |told: u8| (Term::call("Status", &[byte(told)]), Reply::Byte(told));
+    let (_, serial) = memory(0x00, 8);
+    let (_, sample) = numbered(0x01);
+    Listing {
+        about: "Tags, what each replies, if anything, and the bytes that are sent.",
+        name: "RepliesListed",
+        law: "{X = Tag × Option Reply × List ℕ} (λ x. reply_bytes x.0 x.1 ≡ x.2)",
+        rows: vec![
+            sent(&plain(), None),
+            sent(&plain(), Some(status(0x00))),
+            sent(&Tag::new(sample), Some((Term::word("Serial"), serial))),
+            sent(&plain(), Some(memory(0x37, 2))),
+            sent(&plain(), Some(memory(0x00, 256))),
+        ],
+    }
+}
