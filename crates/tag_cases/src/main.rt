@@ -61,12 +61,16 @@ impl Asked<'_> {
     // taken apart at once in both.
     fn set(&mut self, rest: &str) -> anyhow::Result<()> {
         let mut words = rest.split_whitespace();
-        self.tag.state = word(words.next())?.parse::<State>()?;
-        self.tag.identified = read_bit(word(words.next())?)?;
-        self.tag.counter = read_byte(word(words.next())?)?;
-        self.tag.mark = read_mark(word(words.next())?)?;
-        self.tag.permission = read_permission(word(words.next())?)?;
+        let tag = Tag {
+            state: word(words.next())?.parse::<State>()?,
+            identified: read_bit(word(words.next())?)?,
+            counter: read_byte(word(words.next())?)?,
+            mark: read_mark(word(words.next())?)?,
+            permission: read_permission(word(words.next())?)?,
+            ..self.tag
+        };
         no_word(words.next())?;
+        self.tag = tag;
         Ok(())
     }
 
