@@ -35,7 +35,7 @@ pub struct Sending {
 impl Sending {
     // By three words, ROW ROOM FRAME.
     #[tactic(auto, using(crate::proofs::Listed::spelt_sendings))]
-    pub fn read(heap: Global, text: &str) -> anyhow::Result<Sending>
+    pub(crate) fn read(heap: Global, text: &str) -> anyhow::Result<Sending>
         ensures ok { IfOk result (λ s. SpellsSending text.now s.row s.room s.frame.items) }
         ensures worked { SpeltSendings }
     {
@@ -57,7 +57,7 @@ pub struct Asked<F> {
 }
 
 impl<F: Field> Asked<F> {
-    pub fn new(field: F) -> Asked<F>
+    pub(crate) fn new(field: F) -> Asked<F>
         ensures field { result.field ≡ field }
         ensures buffer { result.buffer ≡ replicate 300 0xa5 }
     {
@@ -67,7 +67,7 @@ impl<F: Field> Asked<F> {
         }
     }
 
-    pub fn send(&mut self, sending: &Sending) -> Sent
+    pub(crate) fn send(&mut self, sending: &Sending) -> Sent
         ensures refusal { refusal_in result.heard ≡ (if is_short sending.now.room then Some 5 else None) }
         ensures tags { F.Field.tags self.new.field ≡ sent_to sending.now.room sending.now.frame.items sending.now.row (F.Field.tags self.old.field) }
         ensures hearing { IfOk result.heard (λ h. MayHear (on_air (opening sending.now.frame.items) sending.now.row (F.Field.tags self.old.field)) h) }
@@ -88,7 +88,7 @@ impl<F: Field> Asked<F> {
     }
 
     // Lets so many microseconds pass, and tells the tags after that.
-    pub fn pass(&mut self, microseconds: u32) -> Fingerprint
+    pub(crate) fn pass(&mut self, microseconds: u32) -> Fingerprint
         ensures tags { F.Field.tags self.new.field ≡ gapped_all microseconds (F.Field.tags self.old.field) }
         ensures buffer { self.new.buffer ≡ self.old.buffer }
         ensures shown { result ≡ tags_fingerprint (F.Field.tags self.new.field) }

@@ -82,7 +82,7 @@ impl<'w, 'a> Source<'w, 'a> {
 }
 
 // The field that a nesting means, of all tags of a table.
-pub fn built<'a, F: Build<'a> + Drop>(
+pub(crate) fn built<'a, F: Build<'a> + Drop>(
     nesting: &str,
     tags: &'a mut [Tag],
 ) -> Result<Node<F>, Trouble>

@@ -143,7 +143,7 @@ fn play(rt: &HostRuntime, lines: &[String]) -> anyhow::Result<()> {
 }
 
 // Plays what stands in the input, play after play.
-pub fn play_all(rt: &HostRuntime) -> anyhow::Result<()> {
+pub(crate) fn play_all(rt: &HostRuntime) -> anyhow::Result<()> {
     let mut lines = Vec::new(rt.alloc());
     let input = BufReader::new(rt.alloc(), rt.reader())?.lines(rt.alloc());
     for (number, line) in (1..).zip(input) {

@@ -27,7 +27,7 @@ fn read_memory(heap: Global, text: &str) -> anyhow::Result<[u8; SIZE]> {
 
 // The first five words are those that set a tag in the questions about one. There they change a tag that is there, and
 // here they make one: a type for the five would be taken apart at once in both.
-pub fn read_tag(heap: Global, text: &str) -> anyhow::Result<Tag> {
+pub(crate) fn read_tag(heap: Global, text: &str) -> anyhow::Result<Tag> {
     let mut words = text.split_whitespace();
     Ok(Tag {
         state: word(words.next())?.parse::<State>()?,
@@ -42,7 +42,7 @@ pub fn read_tag(heap: Global, text: &str) -> anyhow::Result<Tag> {
 
 // The first word of several, and what stands behind the space after it.
 #[tactic(auto, using(crate::proofs::Listed::split_words, crate::proofs::Listed::single_words))]
-pub fn split_word(text: &str) -> Result<(&str, &str), Misspelt>
+pub(crate) fn split_word(text: &str) -> Result<(&str, &str), Misspelt>
     ensures ok { IfOk result (λ p. (p.0.now ≡ first_word text.now) × (p.1.now ≡ behind_first text.now)) }
     ensures err { IfErr result (λ e. (e ≡ Missing) × IsOneWord text.now) }
     ensures worked { SplitWords }
@@ -53,7 +53,7 @@ pub fn split_word(text: &str) -> Result<(&str, &str), Misspelt>
 
 // A row of coins, by its sixteen digits.
 #[tactic(auto, using(crate::proofs::Listed::spelt_rows))]
-pub fn read_row(text: &str) -> Result<u64, Misspelt>
+pub(crate) fn read_row(text: &str) -> Result<u64, Misspelt>
     ensures row { Reads SpellsRow Bytes text.now result }
     ensures worked { SpeltRows }
 {

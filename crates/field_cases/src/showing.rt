@@ -10,7 +10,7 @@ use std::fmt;
 use std::marker::Model;
 
 // Bytes up to the last that is not 00.
-pub fn without_end(bytes: &[u8]) -> &[u8]
+pub(crate) fn without_end(bytes: &[u8]) -> &[u8]
     ensures end { (n : ℕ) × (bytes.now ≡ result.now ++ replicate n 0) }
     ensures last { (front : List ℕ) → result.now ≢ front ++ 0 ∷ [] }
 {
@@ -43,7 +43,7 @@ impl fmt::Display for Fingerprint {
 }
 
 impl Fingerprint {
-    pub fn new() -> Fingerprint
+    pub(crate) fn new() -> Fingerprint
         ensures { result ≡ blank }
     {
         Fingerprint {
@@ -52,7 +52,7 @@ impl Fingerprint {
     }
 
     #[tactic(auto, unfolding(crate::specs::Fingerprints::byte_taken))]
-    pub fn with(self, byte: u8) -> Fingerprint
+    pub(crate) fn with(self, byte: u8) -> Fingerprint
         ensures { result ≡ byte_taken self byte }
     {
         Fingerprint {
@@ -60,7 +60,7 @@ impl Fingerprint {
         }
     }
 
-    pub fn with_bytes(self, bytes: &[u8]) -> Fingerprint
+    pub(crate) fn with_bytes(self, bytes: &[u8]) -> Fingerprint
         ensures { result ≡ fold byte_taken self bytes.now }
     {
         bytes.iter().fold(self, |value, byte| value.with(*byte))
@@ -90,7 +90,7 @@ impl Fingerprint {
 }
 
 #[tactic(auto, using(crate::proofs::Listed::bytes_taken))]
-pub fn of_bytes(bytes: &[u8]) -> Fingerprint
+pub(crate) fn of_bytes(bytes: &[u8]) -> Fingerprint
     ensures fingerprint { result ≡ fingerprint bytes.now }
     ensures worked { BytesTaken }
 {
@@ -99,7 +99,7 @@ pub fn of_bytes(bytes: &[u8]) -> Fingerprint
 
 // Of all records of a field, by place.
 #[tactic(auto, using(crate::proofs::Listed::tags_taken))]
-pub fn of_tags<F: Field>(field: &F) -> Fingerprint
+pub(crate) fn of_tags<F: Field>(field: &F) -> Fingerprint
     ensures fingerprint { result ≡ tags_fingerprint (F.Field.tags field.now) }
     ensures worked { TagsTaken }
 {

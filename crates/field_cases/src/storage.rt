@@ -56,7 +56,7 @@ impl Order {
 }
 
 impl Storage {
-    pub fn new() -> Storage {
+    pub(crate) fn new() -> Storage {
         Storage {
             slots: [UNUSED; SLOTS],
             serials: [[0xa5; 8]; SERIALS],
@@ -64,7 +64,7 @@ impl Storage {
     }
 
     // Sweeps a field, and prints the sheet or the refusal, and what tags and storage then hold.
-    pub fn sweep<F: Field>(
+    pub(crate) fn sweep<F: Field>(
         &mut self,
         rt: &HostRuntime,
         field: &mut F,
