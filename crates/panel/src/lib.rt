@@ -1,5 +1,4 @@
-// What the generator's panel, which is C, calls: the check value, and the opening of a frame. The crate panel_c exports
-// both.
+// What the generator's panel, which is C, calls: the check value, and the opening of a frame.
 #![tactic(auto)]
 
 ghost use Rattle.std.specs.Prelude.{◌≡◌, length, MatchResult};
@@ -21,7 +20,8 @@ use protocol::refusal::Refusal;
 const SHOWN: usize = 15;
 
 // The check value of a message.
-pub fn nolbashi_check_value(message: &[u8]) -> u16
+#[unsafe(no_mangle)]
+pub extern "C" fn nolbashi_check_value(message: &[u8]) -> u16
     ensures { result ≡ check_value message.now }
 {
     check_value(message)
@@ -30,12 +30,13 @@ pub fn nolbashi_check_value(message: &[u8]) -> u16
 // Opens a frame, and shows its code and its parameters in the first bytes of `shown`. Answers 0, or the number of the
 // refusal, and then nothing is changed.
 #[tactic(auto, using(crate::proofs::Listed::shown_frames))]
-pub fn nolbashi_open(frame: &[u8], shown: &mut [u8]) -> u8
+#[unsafe(no_mangle)]
+pub extern "C" fn nolbashi_open(frame: &[u8], shown: &mut [u8]) -> u8
     ensures answer { result ≡ answering (opening frame.now) (length shown.old) }
     ensures shown { shown.new ≡ leaving (opening frame.now) shown.old }
     ensures worked { ShownFrames }
 {
-    // A number, since C has no Result.
+    // A number, and a frame beside a buffer, since that is what C has.
     show(frame, shown).err().map_or(0, u8::from)
 }
 
