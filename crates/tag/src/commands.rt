@@ -1,11 +1,13 @@
 // What each command does to a tag that it concerns. Tag and coin, tag and address are a receiver and its argument: methods
 // would have to stand in the crate of the tag's type, which knows nothing of replies.
-ghost use Rattle.std.specs.Prelude.{◌≡◌, ◌-◌, false, if◌then◌else◌, Some, None};
+ghost use Rattle.std.specs.Prelude.{◌≡◌, ◌-◌, false, not, if◌then◌else◌, Some, None};
+ghost use Rattle.record.specs.Masks.{matches};
 ghost use Rattle.record.specs.declared.State.TheVariants.{Ready};
 ghost use Rattle.record.specs.Records.{is_write_ok, bytes_from, locked_at, in_state, flagging, counting_to, permitting};
 ghost use Rattle.reply.specs.Replies.{data_in};
 ghost use Rattle.tag.specs.Steps.{joined, unselected, staying, drawn, in_turn, moved, verified, is_writable, written, locked, lock_status};
 
+use frame::request::Comparison;
 use record::{SIZE, State, Tag, WriteMark};
 use reply::Reply;
 
@@ -19,8 +21,39 @@ pub(crate) fn join(tag: &mut Tag) -> Option<Reply>
     Some(Reply::Serial)
 }
 
+// Whether the masked bytes of a tag are those of the frame.
+pub(crate) fn is_matching(tag: &Tag, wanted: Comparison<'_>) -> bool
+    ensures { result ≡ matches tag.now.memory wanted.entry.address.part.now wanted.entry.mask.part.now wanted.entry.word.part.now }
+{
+    tag.matches(*wanted.address.part, *wanted.mask.part, wanted.word.part)
+}
+
+pub(crate) fn unselect_ne(tag: &mut Tag, wanted: Comparison<'_>) -> Option<Reply>
+    ensures after { tag.new ≡ unselected (not (matches tag.old.memory wanted.entry.address.part.now wanted.entry.mask.part.now wanted.entry.word.part.now)) tag.old }
+    ensures reply { data_in tag.new result ≡ staying (not (matches tag.old.memory wanted.entry.address.part.now wanted.entry.mask.part.now wanted.entry.word.part.now)) tag.old }
+{
+    let differs = !is_matching(tag, wanted);
+    unselect(tag, differs)
+}
+
+pub(crate) fn unselect_id_flag(tag: &mut Tag) -> Option<Reply>
+    ensures after { tag.new ≡ unselected tag.old.identified tag.old }
+    ensures reply { data_in tag.new result ≡ staying tag.old.identified tag.old }
+{
+    let is_set = tag.identified;
+    unselect(tag, is_set)
+}
+
+pub(crate) fn unselect_noid_flag(tag: &mut Tag) -> Option<Reply>
+    ensures after { tag.new ≡ unselected (not tag.old.identified) tag.old }
+    ensures reply { data_in tag.new result ≡ staying (not tag.old.identified) tag.old }
+{
+    let is_clear = !tag.identified;
+    unselect(tag, is_clear)
+}
+
 // Leaves silently, or stays and answers at once.
-pub(crate) fn unselect(tag: &mut Tag, leaves: bool) -> Option<Reply>
+fn unselect(tag: &mut Tag, leaves: bool) -> Option<Reply>
     ensures after { tag.new ≡ unselected leaves tag.old }
     ensures reply { data_in tag.new result ≡ staying leaves tag.old }
 {
@@ -69,7 +102,15 @@ pub(crate) fn reset(tag: &mut Tag) -> Option<Reply>
     None
 }
 
-// READ and READ_FLEXIBLE: the byte at an address and so many more.
+// READ: the byte at an address and seven more.
+pub(crate) fn read_eight(tag: &mut Tag, address: u8) -> Option<Reply>
+    ensures after { tag.new ≡ permitting (Some address) (moved tag.old) }
+    ensures reply { result ≡ Some (Reply.Memory address 7) }
+{
+    read(tag, address, 7)
+}
+
+// READ_FLEXIBLE: the byte at an address and so many more.
 pub(crate) fn read(tag: &mut Tag, address: u8, more: u8) -> Option<Reply>
     ensures after { tag.new ≡ permitting (Some address) (moved tag.old) }
     ensures reply { result ≡ Some (Reply.Memory address more) }

@@ -5,7 +5,6 @@
 ghost use Rattle.std.specs.Prelude.{◌≡◌, length};
 ghost use Rattle.frame.specs.Openings.{opening, seen};
 ghost use Rattle.frame.specs.Requests.{command_of, parts_of};
-ghost use Rattle.record.specs.Masks.{matches};
 ghost use Rattle.reply.specs.Replies.{data_in, sounding, Residual};
 ghost use Rattle.tag.specs.Cases.{FullCounters};
 ghost use Rattle.tag.specs.Listings.{StepCases};
@@ -15,9 +14,12 @@ ghost use Rattle.tag.specs.Steps.{is_meant, obeyed, answered, stepped, replied};
 
 mod commands;
 
-use commands::{in_turn, join, lock, qlock, query, read, reset, scroll, unselect, verify, write};
+use commands::{
+    in_turn, is_matching, join, lock, qlock, query, read, read_eight, reset, scroll,
+    unselect_id_flag, unselect_ne, unselect_noid_flag, verify, write,
+};
 use frame::opening::{Frame, open};
-use frame::request::{Comparison, Request, Target};
+use frame::request::{Request, Target};
 use protocol::refusal::Refusal;
 use record::{State, Tag};
 use reply::Reply;
@@ -93,23 +95,17 @@ fn obey(tag: &mut Tag, request: Request<'_>, coin: bool, permitted: Option<u8>) 
     match (tag.state, request) {
         (State::Ready, Request::Select(wanted)) if is_matching(tag, wanted) => join(tag),
         (State::Singulation, Request::Select(_)) => join(tag),
-        (State::Singulation, Request::UnselectNe(wanted)) => {
-            let differs = !is_matching(tag, wanted);
-            unselect(tag, differs)
-        }
-        (State::Singulation, Request::UnselectIdFlag(_)) => {
-            let is_set = tag.identified;
-            unselect(tag, is_set)
-        }
-        (State::Singulation, Request::UnselectNoidFlag(_)) => {
-            let is_clear = !tag.identified;
-            unselect(tag, is_clear)
-        }
+        (State::Singulation, Request::UnselectNe(wanted)) => unselect_ne(tag, wanted),
+        (State::Singulation, Request::UnselectIdFlag(_)) => unselect_id_flag(tag),
+        (State::Singulation, Request::UnselectNoidFlag(_)) => unselect_noid_flag(tag),
         (State::Singulation, Request::Query) => query(tag, coin),
         (State::Singulation, Request::Scroll) => scroll(tag),
         (State::Singulation, Request::Repeat) => in_turn(tag),
         (_, Request::Reset) => reset(tag),
-        (_, Request::Read(target)) if is_meant(tag, target) => read(tag, *target.address.part, 7),
+        (_, Request::Read(target)) if is_meant(tag, target) => read_eight(
+            tag,
+            *target.address.part,
+        ),
         (_, Request::ReadFlexible(target, length)) if is_meant(tag, target) => {
             read(tag, *target.address.part, *length.part)
         }
@@ -123,13 +119,6 @@ fn obey(tag: &mut Tag, request: Request<'_>, coin: bool, permitted: Option<u8>) 
         (_, Request::Qlock(target)) if is_meant(tag, target) => qlock(tag, *target.address.part),
         _ => None,
     }
-}
-
-// Whether the masked bytes of a tag are those of the frame.
-fn is_matching(tag: &Tag, wanted: Comparison<'_>) -> bool
-    ensures { result ≡ matches tag.now.memory wanted.entry.address.part.now wanted.entry.mask.part.now wanted.entry.word.part.now }
-{
-    tag.matches(*wanted.address.part, *wanted.mask.part, wanted.word.part)
 }
 
 // Whether a tag has the frame's serial number.
