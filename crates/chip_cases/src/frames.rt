@@ -1,16 +1,12 @@
-// Answers questions about frames, one to a line of standard input: `check BYTES`, `open BYTES`, `make CODE BYTES ROOM`.
-// The answers of another implementation are stored beside it, for comparison.
-#![tactic(auto)]
-
-use anyhow::{Context, bail};
+// The questions about frames.
+use crate::QUESTIONS;
+use anyhow::bail;
 use crc::check_value;
 use frame::making::make;
 use frame::opening::{Frame, open};
 use protocol::command::PARAMETERS;
 use spelling::hexadecimal::{Hex, read_byte, read_bytes};
-use spelling::line::Line;
 use std::alloc::{AllocError, Global};
-use std::io::{BufRead, BufReader};
 use std::{fmt, iter};
 
 // The code of a frame, and each parameter with its offset and its length.
@@ -60,7 +56,7 @@ fn answer_make(rt: &HostRuntime, code: &str, text: &str, room: &str) -> anyhow::
     Ok(())
 }
 
-fn answer(rt: &HostRuntime, line: &str) -> anyhow::Result<()> {
+pub(crate) fn answer(rt: &HostRuntime, line: &str) -> anyhow::Result<()> {
     let mut words = line.split_whitespace();
     // A match and no table of closures, since each verb has words of its own.
     match (words.next(), words.next(), words.next(), words.next()) {
@@ -71,18 +67,6 @@ fn answer(rt: &HostRuntime, line: &str) -> anyhow::Result<()> {
         }
         (Some("open"), Some(text), None, _) => answer_open(rt, text),
         (Some("make"), Some(code), Some(text), Some(room)) => answer_make(rt, code, text, room),
-        _ => bail!("no question: `check BYTES`, `open BYTES` or `make CODE BYTES ROOM`"),
+        _ => bail!("{QUESTIONS}"),
     }
-}
-
-fn run(rt: &HostRuntime) -> anyhow::Result<()> {
-    let lines = BufReader::new(rt.alloc(), rt.stdin())?.lines(rt.alloc());
-    for (number, line) in (1..).zip(lines) {
-        answer(rt, line?.as_str()).context(Line { number })?;
-    }
-    Ok(())
-}
-
-fn main(rt: HostRuntime) -> anyhow::Result<()> {
-    run(&rt)
 }

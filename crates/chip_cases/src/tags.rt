@@ -1,35 +1,24 @@
-// Answers questions about one tag, one to a line of standard input: `new MEMORY`, `locks LOCKS`,
-// `set STATE FLAG COUNTER MARK PERMISSION`, `step COIN FRAME`, `gap MICROSECONDS`.
-// The answers of another implementation are stored beside it, for comparison.
-#![tactic(auto)]
-
-mod showing;
-
+// The questions about one tag.
+use crate::QUESTIONS;
 use crate::showing::Answer;
 use anyhow::{Context, bail};
 use frame::opening::open;
 use record::{SIZE, State, Tag};
 use reply::Reply;
 use spelling::hexadecimal::{read_array, read_byte, read_bytes};
-use spelling::line::Line;
 use spelling::sent::replied;
 use spelling::words::{no_word, read_bit, read_locks, read_mark, read_permission, word};
-use std::io::{BufRead, BufReader};
 use tag::step;
-
-// What is told of a line that is none of them.
-const QUESTIONS: &str =
-    "no question: `new MEMORY`, `locks LOCKS`, `set STATE ..`, `step COIN FRAME` or `gap MICROSECONDS`";
 
 // A tag that is asked, and where its answers are printed.
 #[derive(Drop)]
-struct Asked<'a> {
-    rt: &'a HostRuntime,
-    tag: Tag,
+pub(crate) struct Asked<'a> {
+    pub(crate) rt: &'a HostRuntime,
+    pub(crate) tag: Tag,
 }
 
 impl Asked<'_> {
-    fn answer(&mut self, question: &str) -> anyhow::Result<()> {
+    pub(crate) fn answer(&mut self, question: &str) -> anyhow::Result<()> {
         let before = self.tag;
         let reply = self.put(question)?;
         let bytes = replied(self.rt.alloc(), &self.tag, reply)?;
@@ -81,20 +70,4 @@ impl Asked<'_> {
         no_word(words.next())?;
         Ok(step(&mut self.tag, &open(frame.as_slice()), coin))
     }
-}
-
-fn run(rt: &HostRuntime) -> anyhow::Result<()> {
-    let mut asked = Asked {
-        rt,
-        tag: Tag::new([0; SIZE]),
-    };
-    let lines = BufReader::new(rt.alloc(), rt.stdin())?.lines(rt.alloc());
-    for (number, line) in (1..).zip(lines) {
-        asked.answer(line?.as_str()).context(Line { number })?;
-    }
-    Ok(())
-}
-
-fn main(rt: HostRuntime) -> anyhow::Result<()> {
-    run(&rt)
 }

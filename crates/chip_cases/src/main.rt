@@ -1,0 +1,41 @@
+// Answers questions about the chip, one to a line of standard input. About frames: `check BYTES`, `open BYTES`, `make CODE BYTES
+// ROOM`. About one tag: `new MEMORY`, `locks LOCKS`, `set STATE FLAG COUNTER MARK PERMISSION`, `step COIN FRAME`, `gap
+// MICROSECONDS`. The answers of another implementation are stored beside it, for comparison.
+#![tactic(auto)]
+
+mod frames;
+mod showing;
+mod tags;
+
+use crate::tags::Asked;
+use anyhow::Context;
+use record::{SIZE, Tag};
+use spelling::line::Line;
+use std::io::{BufRead, BufReader};
+
+// What is told of a line that is none of them.
+const QUESTIONS: &str =
+    "no question: one begins with `check`, `open`, `make`, `new`, `locks`, `set`, `step` or `gap`";
+
+fn answer(asked: &mut Asked<'_>, line: &str) -> anyhow::Result<()> {
+    match line.split_whitespace().next() {
+        Some("check" | "open" | "make") => frames::answer(asked.rt, line),
+        _ => asked.answer(line),
+    }
+}
+
+fn run(rt: &HostRuntime) -> anyhow::Result<()> {
+    let mut asked = Asked {
+        rt,
+        tag: Tag::new([0; SIZE]),
+    };
+    let lines = BufReader::new(rt.alloc(), rt.stdin())?.lines(rt.alloc());
+    for (number, line) in (1..).zip(lines) {
+        answer(&mut asked, line?.as_str()).context(Line { number })?;
+    }
+    Ok(())
+}
+
+fn main(rt: HostRuntime) -> anyhow::Result<()> {
+    run(&rt)
+}
