@@ -8,7 +8,7 @@ use std::str;
 const PAGE: usize = 4096;
 
 // Prints the sheet of the last sweep, if there was one and it was not refused.
-pub(crate) fn show(rt: &HostRuntime, lists: &Lists<'_>, answer: Answer) -> anyhow::Result<()> {
+pub(crate) fn show_last(rt: &HostRuntime, lists: &Lists<'_>, answer: Answer) -> anyhow::Result<()> {
     let report = answer.context("no sweep")??;
     let mut page = [0; PAGE];
     let length = sheet::write(

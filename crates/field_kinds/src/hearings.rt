@@ -1,42 +1,11 @@
 // Sends the same few frames to a bench, a pair and a spoiler over four tags each, and prints what each hears.
-#![tactic(auto)]
-
-mod act;
-mod heard;
-
 use crate::act::ACTS;
-use crate::heard::{alike, hear};
-use anyhow::Context;
-use bench::bench::Bench;
+use crate::building::{bench_over, crowd, pair_of, spoiler_of};
+use crate::heard::hear;
 use bench::single::Single;
+use compare::agreeing::agree;
 use field::field::Field;
-use layers::pair::Pair;
-use layers::spoiler::Spoiler;
-use record::Tag;
-use spelling::sample::numbered_tag;
 use spelling::sent::framed;
-use std::array;
-
-// The tags of each field: numbers 1 to 4 at places 0 to 3.
-fn crowd() -> [Tag; 4] {
-    array::from_fn(|place| numbered_tag(place as u8 + 1))
-}
-
-fn bench_over(table: &mut [Tag]) -> anyhow::Result<Bench<'_>> {
-    let mut bench = Bench::new();
-    bench.set_table(table).ok().context("too long a table")?;
-    Ok(bench)
-}
-
-// Two fields as one. This and the next are generic, since taking a field out of its result gets no proof today where a
-// bench is below.
-fn pair_of<L: Field + Drop, R: Field + Drop>(left: L, right: R) -> anyhow::Result<Pair<L, R>> {
-    Pair::new(left, right).ok().context("too many places")
-}
-
-fn spoiler_of<F: Field + Drop>(field: F, period: u16) -> anyhow::Result<Spoiler<F>> {
-    Spoiler::new(field, period).ok().context("a period of 0")
-}
 
 // Sends a frame to a field, and prints what it hears.
 fn tell<F: Field>(
@@ -68,7 +37,7 @@ fn play<B: Field, P: Field, S: Field>(
     Ok(())
 }
 
-fn run(rt: &HostRuntime) -> anyhow::Result<()> {
+pub(crate) fn show(rt: &HostRuntime) -> anyhow::Result<()> {
     let mut parted = crowd();
     let mut below = crowd();
     let mut table = crowd();
@@ -79,11 +48,7 @@ fn run(rt: &HostRuntime) -> anyhow::Result<()> {
         "four tags: on a bench, in a pair of one and three, and where each second lone reply is spoiled"
     )?;
     play(rt, &mut bench, &mut pair, &mut spoiler)?;
-    let alike = alike(&bench, &pair) && alike(&bench, &spoiler);
-    println!(rt; "tags alike: {}", if alike { "yes" } else { "no" })?;
+    let agree = agree(&bench, &pair) && agree(&bench, &spoiler);
+    println!(rt; "tags agree: {}", if agree { "yes" } else { "no" })?;
     Ok(())
-}
-
-fn main(rt: HostRuntime) -> anyhow::Result<()> {
-    run(&rt)
 }

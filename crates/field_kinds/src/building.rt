@@ -1,10 +1,17 @@
-// Fields of the kinds that are played.
+// The tags, and fields of each kind over them.
 use anyhow::Context;
 use bench::bench::Bench;
 use field::field::Field;
 use layers::pair::Pair;
 use layers::spoiler::Spoiler;
 use record::Tag;
+use spelling::sample::numbered_tag;
+use std::array;
+
+// The tags of each field: numbers 1 to 4 at places 0 to 3.
+pub(crate) fn crowd() -> [Tag; 4] {
+    array::from_fn(|place| numbered_tag(place as u8 + 1))
+}
 
 pub(crate) fn bench_over(table: &mut [Tag]) -> anyhow::Result<Bench<'_>> {
     let mut bench = Bench::new();

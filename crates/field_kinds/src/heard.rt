@@ -31,9 +31,3 @@ pub(crate) fn hear<F: Field>(field: &mut F, frame: &[u8], row: u64) -> Result<He
     reply.copy_from_slice(&buffer[..REPLY]);
     Ok(Heard { hearing, reply })
 }
-
-// Whether two fields have the same tags at the same places.
-pub(crate) fn alike<A: Field, B: Field>(one: &A, other: &B) -> bool {
-    one.places() == other.places()
-        && (0..one.places()).all(|place| one.tag(place) == other.tag(place))
-}

@@ -1,23 +1,15 @@
 // Plays one list of calls on two fields of different kinds that begin alike: a bench, and a spoiler over a pair. Prints the
 // sheet of each one's last sweep, and whether the tags agree.
-#![tactic(auto)]
-
-mod building;
-mod showing;
-
-use crate::building::{bench_over, pair_of, spoiler_of};
-use crate::showing::show;
+use crate::building::{bench_over, crowd, pair_of, spoiler_of};
+use crate::showing::show_last;
 use bench::single::Single;
 use compare::agreeing::agree;
 use compare::call::{Call, Plan};
 use compare::playing::play;
 use field::field::ROOM;
-use record::Tag;
 use rows::list::Rows;
 use slot::lists::Lists;
 use slot::row::BLANK;
-use spelling::sample::numbered_tag;
-use std::array;
 
 // How many commands a sweep may send.
 const BUDGET: u16 = 100;
@@ -39,11 +31,6 @@ fn sweep_by<'a>(left: &'a [u64], right: &'a [u64]) -> Call<'a> {
     }
 }
 
-// The tags of each field: numbers 1 to 4 at places 0 to 3.
-fn crowd() -> [Tag; 4] {
-    array::from_fn(|place| numbered_tag(place as u8 + 1))
-}
-
 // A sweep, a gap that makes every tag READY, a send, and another sweep. No sweep draws the same coins as the one beside it.
 fn calls<'a>() -> [Call<'a>; 4] {
     [
@@ -58,7 +45,7 @@ fn calls<'a>() -> [Call<'a>; 4] {
     ]
 }
 
-fn run(rt: &HostRuntime) -> anyhow::Result<()> {
+pub(crate) fn show(rt: &HostRuntime) -> anyhow::Result<()> {
     let mut table = crowd();
     let mut parted = crowd();
     let mut left = bench_over(&mut table)?;
@@ -84,14 +71,10 @@ fn run(rt: &HostRuntime) -> anyhow::Result<()> {
         &mut right_lists,
     );
     println!(rt; "a bench of four tags")?;
-    show(rt, &left_lists, played.left)?;
+    show_last(rt, &left_lists, played.left)?;
     println!(rt; "where each second lone reply is spoiled, a pair of one and three")?;
-    show(rt, &right_lists, played.right)?;
+    show_last(rt, &right_lists, played.right)?;
     let agree = agree(&left, &right);
     println!(rt; "tags agree: {}", if agree { "yes" } else { "no" })?;
     Ok(())
-}
-
-fn main(rt: HostRuntime) -> anyhow::Result<()> {
-    run(&rt)
 }
