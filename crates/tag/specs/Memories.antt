@@ -24,7 +24,8 @@ is_reached a mask i = nat_le a i && (nat_lt i (a + 4) && selects mask (i - a))
 abbrev pub stores_at : Opening → Tag → ℕ → Bool
 stores_at (refused n) t i = false
 stores_at (opened code c parts) t i =
-    is_command c Write && (is_meant t (bytes_of Serial parts) && (is_writable t (byte_of Address parts) && is_reached (byte_of Address parts) (byte_of Mask parts) i))
+    is_command c Write && (is_meant t (bytes_of Serial parts)
+    && (is_writable t (byte_of Address parts) && is_reached (byte_of Address parts) (byte_of Mask parts) i))
 
 -- The byte that a frame has for an address.
 abbrev pub brought_to : Opening → ℕ → ℕ
@@ -36,7 +37,8 @@ brought_to (opened code c parts) i = slice_index (bytes_of Data parts) (i - byte
 abbrev pub locks_at : Opening → Tag → ℕ → Bool
 locks_at (refused n) t i = false
 locks_at (opened code c parts) t i =
-    is_command c Lock && (is_meant t (bytes_of Serial parts) && (if_inventoried t.state true false && (is_lockable t.permission (byte_of Address parts) && i == byte_of Address parts)))
+    is_command c Lock && (is_meant t (bytes_of Serial parts)
+    && (if_inventoried t.state true false && (is_lockable t.permission (byte_of Address parts) && i == byte_of Address parts)))
 
 -- A tag before and after a frame: each byte and each lock is as it was, unless the frame stores or locks just there.
 pub record Accounted (frame : Opening) (before after : Tag) : Type 0 where
