@@ -5,7 +5,7 @@ use Rattle.std.proofs.Common.{◌≡◌, ℕ, zero, suc, ◌+◌, ◌-◌, ◌*�
 use lib.Bits.{bit_xor, differ, xor_block, xor_shifted, xor_lt, xor_assoc, xor_comm, xor_zero_r, xor_step}
 use Rattle.std.proofs.lemmas.List.Sums.{fold-append}
 use Rattle.std.proofs.lemmas.Bool.{lt-ltb, le-ltb, cond-true, cond-false, cases_lt}
-use Rattle.crc.specs.Check.{moved, bit_taken, bits, byte_taken, sent}
+use Rattle.crc.specs.Check.{moved_up, bit_taken, bits, byte_taken, sent}
 
 xor_double : (a b : ℕ) → bit_xor a b * 2 ≡ bit_xor (a * 2) (b * 2)
 xor_double a b =
@@ -15,17 +15,17 @@ xor_double a b =
     let s : bit_xor a b * 2 + bit_xor 0 0 ≡ bit_xor a b * 2 = omega arith in
     sym s ∙ sym e ∙ ap₂ bit_xor p q
 
-pub moved_low : (r : ℕ) → r < 0x8000 → moved r ≡ r * 2
-unfolding moved
+pub moved_low : (r : ℕ) → r < 0x8000 → moved_up r ≡ r * 2
+unfolding moved_up
 moved_low r h = cond-true (ltb r 0x8000) _ _ (lt-ltb r 0x8000 h)
 
-pub moved_high : (r : ℕ) → 0x8000 ≤ r → moved r ≡ bit_xor ((r - 0x8000) * 2) 0x1021
-unfolding moved
+pub moved_high : (r : ℕ) → 0x8000 ≤ r → moved_up r ≡ bit_xor ((r - 0x8000) * 2) 0x1021
+unfolding moved_up
 moved_high r h =
     cond-false (ltb r 0x8000) _ _ (le-ltb r 0x8000 h)
     ∙ ap (λ (x : ℕ). bit_xor x 0x1021) (let e : r * 2 - 0x10000 ≡ (r - 0x8000) * 2 = omega arith in e)
 
-moved_top : (q : ℕ) → moved (0x8000 + q) ≡ bit_xor (q * 2) 0x1021
+moved_top : (q : ℕ) → moved_up (0x8000 + q) ≡ bit_xor (q * 2) 0x1021
 moved_top q =
     moved_high (0x8000 + q) (omega arith)
     ∙ ap (λ (x : ℕ). bit_xor (x * 2) 0x1021) (let e : 0x8000 + q - 0x8000 ≡ q = omega arith in e)
@@ -37,25 +37,25 @@ top_xor q s hq hs =
     ap (λ (x : ℕ). bit_xor (0x8000 + q) x) (sym t) ∙ e
 
 -- A part below the top moves by itself.
-moved-xor_low : (r s : ℕ) → r < 0x8000 → s < 0x8000 → moved (bit_xor r s) ≡ bit_xor (moved r) (s * 2)
+moved-xor_low : (r s : ℕ) → r < 0x8000 → s < 0x8000 → moved_up (bit_xor r s) ≡ bit_xor (moved_up r) (s * 2)
 moved-xor_low r s hr hs =
     moved_low (bit_xor r s) (xor_lt 15 r s hr hs) ∙ xor_double r s ∙ ap (λ (x : ℕ). bit_xor x (s * 2)) (sym (moved_low r hr))
 
-moved-xor_high : (q s : ℕ) → q < 0x8000 → s < 0x8000 → moved (bit_xor (0x8000 + q) s) ≡ bit_xor (moved (0x8000 + q)) (s * 2)
+moved-xor_high : (q s : ℕ) → q < 0x8000 → s < 0x8000 → moved_up (bit_xor (0x8000 + q) s) ≡ bit_xor (moved_up (0x8000 + q)) (s * 2)
 moved-xor_high q s hq hs =
-    ap moved (top_xor q s hq hs) ∙ moved_top (bit_xor q s) ∙ ap (λ (x : ℕ). bit_xor x 0x1021) (xor_double q s)
+    ap moved_up (top_xor q s hq hs) ∙ moved_top (bit_xor q s) ∙ ap (λ (x : ℕ). bit_xor x 0x1021) (xor_double q s)
     ∙ xor_assoc (q * 2) (s * 2) 0x1021 ∙ ap (bit_xor (q * 2)) (xor_comm (s * 2) 0x1021)
     ∙ sym (xor_assoc (q * 2) 0x1021 (s * 2)) ∙ ap (λ (x : ℕ). bit_xor x (s * 2)) (sym (moved_top q))
 
-moved-xor : (r s : ℕ) → r < 0x10000 → s < 0x8000 → moved (bit_xor r s) ≡ bit_xor (moved r) (s * 2)
+moved-xor : (r s : ℕ) → r < 0x10000 → s < 0x8000 → moved_up (bit_xor r s) ≡ bit_xor (moved_up r) (s * 2)
 moved-xor r s hr hs =
     ⊎_elim (λ h. moved-xor_low r s h hs)
     (λ h.
     let e : 0x8000 + (r - 0x8000) ≡ r = omega arith in
-    subst (λ (x : ℕ). moved (bit_xor x s) ≡ bit_xor (moved x) (s * 2)) e (moved-xor_high (r - 0x8000) s (omega arith) hs))
+    subst (λ (x : ℕ). moved_up (bit_xor x s) ≡ bit_xor (moved_up x) (s * 2)) e (moved-xor_high (r - 0x8000) s (omega arith) hs))
     (cases_lt r 0x8000)
 
-pub moved-fits : (r : ℕ) → r < 0x10000 → moved r < 0x10000
+pub moved-fits : (r : ℕ) → r < 0x10000 → moved_up r < 0x10000
 moved-fits r hr =
     ⊎_elim (λ h. subst (λ (x : ℕ). x < 0x10000) (sym (moved_low r h)) (omega arith))
     (λ h. subst (λ (x : ℕ). x < 0x10000) (sym (moved_high r h)) (xor_lt 16 ((r - 0x8000) * 2) 0x1021 (omega arith) (omega arith)))
@@ -64,7 +64,7 @@ moved-fits r hr =
 -- The register some places further up.
 abbrev pub times : ℕ → ℕ → ℕ
 times zero r = r
-times (suc k) r = moved (times k r)
+times (suc k) r = moved_up (times k r)
 
 times-fits : (k r : ℕ) → r < 0x10000 → times k r < 0x10000
 times-fits zero r h = h
@@ -77,7 +77,7 @@ times-xor (suc k) r s hr hs =
     let p : 2 ^ suc k ≡ 2 ^ k * 2 = pow-suc 2 k in
     let d : s * 2 ^ suc k ≡ s * 2 ^ k * 2 = ap (λ (x : ℕ). s * x) p ∙ sym (mul_assoc s (2 ^ k) 2) in
     let h : s * 2 ^ k < 0x8000 = omega arith in
-    ap moved (times-xor k r s hr (omega arith)) ∙ moved-xor (times k r) (s * 2 ^ k) (times-fits k r hr) h ∙ ap (bit_xor (moved (times k r))) (sym d)
+    ap moved_up (times-xor k r s hr (omega arith)) ∙ moved-xor (times k r) (s * 2 ^ k) (times-fits k r hr) h ∙ ap (bit_xor (moved_up (times k r))) (sym d)
 
 -- One more bit, the lowest of y, where the register has met the bits above it: then it has met y, i places up.
 met_more : (i j r y : ℕ) → r < 0x10000 → y * 2 ^ i < 0x10000 → y % 2 * 2 ^ i * 2 ^ j ≡ y % 2 * 0x8000
@@ -90,7 +90,7 @@ met_more i j r y hr hy e =
     ap (λ (x : ℕ). y / 2 * x + y % 2 * 2 ^ i) (p ∙ mul_comm (2 ^ i) 2) ∙ ap (λ (x : ℕ). x + y % 2 * 2 ^ i) (sym (mul_assoc (y / 2) 2 (2 ^ i)))
     ∙ sym (add-mul (y / 2 * 2) (y % 2) (2 ^ i)) ∙ ap (λ (x : ℕ). x * 2 ^ i) (div-add-mod' y 2) in
     let high : bit_xor r (y / 2 * 2 ^ suc i) < 0x10000 = xor_lt 16 r (y / 2 * 2 ^ suc i) hr (omega arith) in
-    ap moved
+    ap moved_up
     (ap (bit_xor (times j (bit_xor r (y / 2 * 2 ^ suc i)))) (sym e)
     ∙ sym (times-xor j (bit_xor r (y / 2 * 2 ^ suc i)) (y % 2 * 2 ^ i) high (omega arith))
     ∙ ap (times j)
@@ -182,7 +182,7 @@ two-met r h l hr hh hl =
     (sym (times-xor 8 m l hm (omega arith)) ∙ ap (times 8) (xor_assoc r (h * 256) l ∙ ap (bit_xor r) (xor_shifted h 8 l hl)))
 
 residue_from : (r : ℕ) → r < 0x10000 → byte_taken (byte_taken r ((0xffff - r) / 256 % 256)) ((0xffff - r) % 256) ≡ 0x1d0f
-unfolding moved
+unfolding moved_up
 residue_from r hr =
     let e : (0xffff - r) / 256 % 256 * 256 + (0xffff - r) % 256 ≡ 0xffff - r = omega arith in
     two-met r ((0xffff - r) / 256 % 256) ((0xffff - r) % 256) hr (omega arith) (omega arith)

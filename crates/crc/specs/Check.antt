@@ -3,12 +3,12 @@
 use Rattle.std.specs.Prelude.{ℕ, ◌-◌, ◌*◌, ◌/◌, ◌%◌, cond, List, [], ◌∷◌, ◌++◌, fold, bit_xor, nat_lt}
 
 -- The register one place further up. A 1 that falls out at the top brings the polynomial in.
-unfoldable pub moved : ℕ → ℕ
-moved r = cond (nat_lt r 0x8000) (r * 2) (bit_xor (r * 2 - 0x10000) 0x1021)
+unfoldable pub moved_up : ℕ → ℕ
+moved_up r = cond (nat_lt r 0x8000) (r * 2) (bit_xor (r * 2 - 0x10000) 0x1021)
 
 -- The register after one more bit, 0 or 1, which meets the top of the register before it moves.
 unfoldable pub bit_taken : ℕ → ℕ → ℕ
-bit_taken r b = moved (bit_xor r (b * 0x8000))
+bit_taken r b = moved_up (bit_xor r (b * 0x8000))
 
 -- The bits of a byte, the highest first.
 unfoldable pub bits : ℕ → List ℕ

@@ -1,19 +1,19 @@
 -- The cases at the limits, computed. Assumes nothing.
 use Rattle.std.proofs.Common.{refl}
-use Rattle.crc.specs.Check.{moved, bit_taken, bits, byte_taken, sealed}
+use Rattle.crc.specs.Check.{moved_up, bit_taken, bits, byte_taken, sealed}
 use Rattle.frame.specs.Cases.{BareFrames, ShortReplies, DamagedFrames}
 use Rattle.protocol.specs.Commands.{named}
 use Rattle.frame.specs.Makings.{making}
 use Rattle.frame.specs.Openings.{opening, is_sealed, front, parameters_of}
 
 pub bare_frames : BareFrames
-unfolding BareFrames making opening is_sealed front parameters_of named moved bit_taken bits byte_taken sealed
+unfolding BareFrames making opening is_sealed front parameters_of named moved_up bit_taken bits byte_taken sealed
 bare_frames = ((refl, refl), ((refl, refl), ((refl, refl), ((refl, refl), tt))))
 
 pub short_replies : ShortReplies
-unfolding ShortReplies moved bit_taken bits byte_taken sealed
+unfolding ShortReplies moved_up bit_taken bits byte_taken sealed
 short_replies = (refl, (refl, (refl, (refl, tt))))
 
 pub damaged_frames : DamagedFrames
-unfolding DamagedFrames opening is_sealed front named moved bit_taken bits byte_taken sealed
+unfolding DamagedFrames opening is_sealed front named moved_up bit_taken bits byte_taken sealed
 damaged_frames = (refl, (refl, tt))

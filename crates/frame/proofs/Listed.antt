@@ -1,5 +1,5 @@
 -- The listings, computed. Assumes nothing.
-use Rattle.crc.specs.Check.{moved, bit_taken, bits, byte_taken, sealed}
+use Rattle.crc.specs.Check.{moved_up, bit_taken, bits, byte_taken, sealed}
 use Rattle.protocol.specs.Commands.{named}
 use Rattle.frame.specs.Listings.{OpenedFrames, RefusedFrames, MadeFrames, LaidBytes}
 use Rattle.frame.specs.Makings.{making}
@@ -7,15 +7,15 @@ use Rattle.frame.specs.Openings.{opening, is_sealed, front, parameters_of}
 use Rattle.frame.specs.Writing.{laid}
 
 pub opened_frames : OpenedFrames
-unfolding OpenedFrames opening is_sealed front parameters_of named moved bit_taken bits byte_taken sealed
+unfolding OpenedFrames opening is_sealed front parameters_of named moved_up bit_taken bits byte_taken sealed
 opened_frames = search
 
 pub refused_frames : RefusedFrames
-unfolding RefusedFrames opening is_sealed front parameters_of named moved bit_taken bits byte_taken sealed
+unfolding RefusedFrames opening is_sealed front parameters_of named moved_up bit_taken bits byte_taken sealed
 refused_frames = search
 
 pub made_frames : MadeFrames
-unfolding MadeFrames making named moved bit_taken bits byte_taken sealed
+unfolding MadeFrames making named moved_up bit_taken bits byte_taken sealed
 made_frames = search
 
 pub laid_bytes : LaidBytes

@@ -1,5 +1,5 @@
 -- The listings, computed. Assumes nothing.
-use Rattle.crc.specs.Check.{moved, bit_taken, bits, byte_taken, sealed}
+use Rattle.crc.specs.Check.{moved_up, bit_taken, bits, byte_taken, sealed}
 use Rattle.record.specs.Records.{bytes_from}
 use Rattle.reply.specs.Listings.{Stretches, WrittenReplies}
 
@@ -8,5 +8,5 @@ unfolding Stretches bytes_from
 stretches = search
 
 pub written_replies : WrittenReplies
-unfolding WrittenReplies moved bit_taken bits byte_taken sealed bytes_from
+unfolding WrittenReplies moved_up bit_taken bits byte_taken sealed bytes_from
 written_replies = search

@@ -2,7 +2,7 @@
 use Rattle.std.proofs.Common.{◌≡◌, ℕ, false, Bool, List, [], Ok, inl, inr, refl}
 use Rattle.std.specs.Fmt.{digits}
 use Rattle.std.specs.Result.{result_unwrap_or}
-use Rattle.crc.specs.Check.{moved, bit_taken, bits, byte_taken, sealed}
+use Rattle.crc.specs.Check.{moved_up, bit_taken, bits, byte_taken, sealed}
 use Rattle.frame.specs.Makings.{making}
 use Rattle.hex.specs.Hex.{decode_of, decode_pairs, decode_sized, encode_with}
 use Rattle.protocol.specs.Commands.{named}
@@ -76,7 +76,7 @@ unfolding SampleListed
 sample_listed = search
 
 pub frames_listed : FramesListed
-unfolding FramesListed making named moved bit_taken bits byte_taken sealed
+unfolding FramesListed making named moved_up bit_taken bits byte_taken sealed
 frames_listed = search
 
 pub no_frames_listed : NoFramesListed
@@ -84,5 +84,5 @@ unfolding NoFramesListed making named
 no_frames_listed = ((refusal.Code, refl, refl), ((refusal.Length, refl, refl), ((refusal.Length, refl, refl), tt)))
 
 pub replies_listed : RepliesListed
-unfolding RepliesListed moved bit_taken bits byte_taken sealed bytes_from
+unfolding RepliesListed moved_up bit_taken bits byte_taken sealed bytes_from
 replies_listed = search

@@ -2,7 +2,7 @@
 use Rattle.std.proofs.Common.{◌≡◌, ℕ, ◌+◌, ◌-◌, true, List, [], ◌∷◌, ◌++◌, length, get_or, take, drop, replicate, Some, sym, refl, ap, ◌∙◌, ap₂, arith}
 use Rattle.std.proofs.lemmas.Slice.Eq.{bytes_eq-Decides}
 use Rattle.std.proofs.lemmas.List.{take_at, drop_at, length-append, append_assoc}
-use Rattle.crc.specs.Check.{moved, bit_taken, bits, byte_taken, sent, check_value, sealed}
+use Rattle.crc.specs.Check.{moved_up, bit_taken, bits, byte_taken, sent, check_value, sealed}
 use Rattle.protocol.specs.declared.command.Command.TheVariants.{Read}
 use Rattle.protocol.specs.Commands.{layout, named}
 use Rattle.frame.specs.Openings.{opened, opening, is_sealed, front, parameters_of}
@@ -17,19 +17,19 @@ use Rattle.field.specs.Sends.{padded}
 use Rattle.slot.specs.Commands.{word, target, select, query, scroll, again, read, serial_in}
 
 pub order-select : order select ≡ orders.select 0x00 0xc0 word
-unfolding select opening is_sealed front parameters_of named moved bit_taken bits byte_taken sealed
+unfolding select opening is_sealed front parameters_of named moved_up bit_taken bits byte_taken sealed
 order-select = refl
 
 pub order-query : order query ≡ orders.query
-unfolding query opening is_sealed front parameters_of named moved bit_taken bits byte_taken sealed
+unfolding query opening is_sealed front parameters_of named moved_up bit_taken bits byte_taken sealed
 order-query = refl
 
 pub order-scroll : order scroll ≡ orders.scroll
-unfolding scroll opening is_sealed front parameters_of named moved bit_taken bits byte_taken sealed
+unfolding scroll opening is_sealed front parameters_of named moved_up bit_taken bits byte_taken sealed
 order-scroll = refl
 
 pub order-again : order again ≡ orders.again
-unfolding again opening is_sealed front parameters_of named moved bit_taken bits byte_taken sealed
+unfolding again opening is_sealed front parameters_of named moved_up bit_taken bits byte_taken sealed
 order-again = refl
 
 sealed-length : (message : List ℕ) → length (sealed message) ≡ length message + 2

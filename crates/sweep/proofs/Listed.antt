@@ -1,6 +1,6 @@
 -- The listings, computed. Assumes nothing.
 use Rattle.std.proofs.Common.{inl, inr}
-use Rattle.crc.specs.Check.{moved, bit_taken, bits, byte_taken, sealed}
+use Rattle.crc.specs.Check.{moved_up, bit_taken, bits, byte_taken, sealed}
 use Rattle.protocol.specs.Commands.{named}
 use Rattle.frame.specs.Openings.{opening, is_sealed, front, parameters_of}
 use Rattle.record.specs.Records.{bytes_from}
@@ -10,7 +10,7 @@ use Rattle.slot.specs.Rules.{went, plain, may_hear, played, Heard, replayed}
 use Rattle.sweep.specs.Listings.{WorkedSweeps, SpoiledSweeps, DeepSweeps, WorkedFates, SweepCases}
 
 pub sweep_cases : SweepCases
-unfolding WorkedSweeps SpoiledSweeps DeepSweeps went plain may_hear played Heard replayed select query scroll again read serial_in stepped_all on_air padded opening is_sealed front parameters_of named moved bit_taken bits byte_taken sealed bytes_from
+unfolding WorkedSweeps SpoiledSweeps DeepSweeps went plain may_hear played Heard replayed select query scroll again read serial_in stepped_all on_air padded opening is_sealed front parameters_of named moved_up bit_taken bits byte_taken sealed bytes_from
 sweep_cases = record { plain = search inl; spoiled = search (inl, inr); deep = search }
 
 pub worked_fates : WorkedFates

@@ -1,6 +1,6 @@
 -- The counter at its limit, computed; and what a reply leaves in the register. Assumes nothing.
 use Rattle.std.proofs.Common.{ℕ, Bool, List, Some, None, Option, refl, arith}
-use Rattle.crc.specs.Check.{moved, bit_taken, bits, byte_taken, sealed}
+use Rattle.crc.specs.Check.{moved_up, bit_taken, bits, byte_taken, sealed}
 use Rattle.crc.proofs.Moves.{residue}
 use Rattle.protocol.specs.Commands.{named}
 use Rattle.frame.specs.Openings.{Opening, opening, is_sealed, front, parameters_of}
@@ -11,7 +11,7 @@ use Rattle.reply.specs.Replies.{sounding, Residual}
 use Rattle.tag.specs.Steps.{met, answered, replied}
 
 pub full_counters : FullCounters
-unfolding FullCounters opening is_sealed front parameters_of named moved bit_taken bits byte_taken sealed
+unfolding FullCounters opening is_sealed front parameters_of named moved_up bit_taken bits byte_taken sealed
 full_counters = ((λ t coin s n. rw (s, n) refl), ((λ t coin s n. rw (s, n) refl), tt))
 
 sounding_residual : (reply : Option (List ℕ)) → Residual (sounding reply)
