@@ -1,8 +1,7 @@
 -- A reply buffer: set to 00, and a reply laid over its front. Assumes nothing.
 use Rattle.std.proofs.Common.{◌≡◌, ℕ, ◌-◌, ◌≤◌, List, [], ◌++◌, length, drop, replicate, sym, refl, ap, ◌∙◌, arith, le-ltb}
 use Rattle.std.proofs.lemmas.List.{append_assoc, length-append, length-replicate, drop-append-le, drop-replicate}
-use Rattle.frame.specs.Makings.{leaving}
-use Rattle.reply.specs.Replies.{writing}
+use Rattle.frame.specs.Makings.{leaving, writing}
 use Rattle.field.specs.Sends.{padded}
 
 pub padded_none : (n : ℕ) → padded n [] ≡ replicate n 0

@@ -33,6 +33,10 @@ abbrev pub leaving : Making → List ℕ → List ℕ
 leaving (unmade n) buffer = buffer
 leaving (made frame) buffer = frame ++ drop (length frame) buffer
 
+-- Writing some bytes, which are there already, into a buffer with some room.
+abbrev pub writing : List ℕ → ℕ → Making
+writing bytes room = cond (nat_lt room (length bytes)) (unmade 5) (made bytes)
+
 -- A frame opens as a code with some parameters.
 abbrev pub OpensAs : ℕ → List ℕ → List ℕ → Type 0
 OpensAs code parameters frame =

@@ -3,7 +3,7 @@ use Rattle.std.specs.Prelude.{◌≡◌, ℕ, false, List, [], ◌∷◌, ◌++�
 use Rattle.std.specs.List.{AllByRecursion, range_with_len}
 use Rattle.crc.specs.Check.{sealed}
 use Rattle.protocol.specs.Refusals.{Answer, told, denied}
-use Rattle.frame.specs.Makings.{answering, leaving}
+use Rattle.frame.specs.Makings.{answering, leaving, writing}
 use Rattle.record.specs.declared.State.TheVariants.{Ready}
 use Rattle.record.specs.declared.WriteMark.TheVariants.{Clear}
 use Rattle.record.specs.declared.Tag.{Tag}
@@ -11,7 +11,7 @@ use Rattle.record.specs.Listings.{plain, first_two, tag_with}
 use Rattle.record.specs.Records.{bytes_from}
 use Rattle.reply.specs.declared.Reply.{Reply}
 use Rattle.reply.specs.declared.Reply.TheVariants.{Serial, Memory, Status}
-use Rattle.reply.specs.Replies.{data_of, writing}
+use Rattle.reply.specs.Replies.{data_of}
 
 -- A tag, what it replies, a buffer, the answer of writing, and the buffer after it.
 pub record ReplyCase : Type 0 where

@@ -1,7 +1,6 @@
 -- What a reply says: data, and on the air the data with its check value. Assumes nothing.
-use Rattle.std.specs.Prelude.{◌≡◌, ℕ, ◌+◌, cond, List, [], ◌∷◌, length, Some, None, Option, nat_lt}
+use Rattle.std.specs.Prelude.{◌≡◌, ℕ, ◌+◌, List, [], ◌∷◌, Some, None, Option}
 use Rattle.crc.specs.Check.{register, sealed}
-use Rattle.frame.specs.Makings.{Making, made, unmade}
 use Rattle.record.specs.declared.Tag.{Tag}
 use Rattle.reply.specs.declared.Reply.{Reply}
 use Rattle.reply.specs.declared.Reply.TheVariants.{Serial, Memory, Status}
@@ -27,7 +26,3 @@ Residual (Some bytes) = register bytes ≡ 0x1d0f
 abbrev pub data_in : Tag → Option Reply → Option (List ℕ)
 data_in t None = None
 data_in t (Some r) = Some (data_of t r)
-
--- Writing a reply into a buffer with some room.
-abbrev pub writing : List ℕ → ℕ → Making
-writing reply room = cond (nat_lt room (length reply)) (unmade 5) (made reply)

@@ -3,12 +3,12 @@
 
 ghost use Rattle.std.specs.Prelude.{◌≡◌, ◌+◌, ◌≤◌, length, is_ok};
 ghost use Rattle.crc.specs.Check.{sealed};
-ghost use Rattle.frame.specs.Makings.{made, answering, leaving};
+ghost use Rattle.frame.specs.Makings.{made, answering, leaving, writing};
 ghost use Rattle.frame.specs.Writing.{Put};
 ghost use Rattle.protocol.specs.Refusals.{told, answer_of};
 ghost use Rattle.record.specs.Records.{bytes_from};
 ghost use Rattle.reply.specs.Listings.{Stretches, WrittenReplies};
-ghost use Rattle.reply.specs.Replies.{data_of, writing};
+ghost use Rattle.reply.specs.Replies.{data_of};
 
 use frame::writer::Writer;
 use protocol::refusal::Refusal;

@@ -4,7 +4,7 @@ use Rattle.std.specs.List.{flat_map, AllByRecursion}
 use Rattle.protocol.specs.declared.command.Command.{Command}
 use Rattle.protocol.specs.declared.command.Command.TheVariants.{Select, Query, Scroll, Write}
 use Rattle.protocol.specs.Refusals.{Answer, told, denied}
-use Rattle.frame.specs.Makings.{answering, leaving}
+use Rattle.frame.specs.Makings.{answering, leaving, writing}
 use Rattle.field.specs.declared.hearing.Hearing.{Hearing}
 use Rattle.field.specs.declared.hearing.Hearing.TheVariants.{Silence, Lone, Clash}
 use Rattle.slot.specs.declared.row.SlotRow.{SlotRow}
@@ -12,7 +12,7 @@ use Rattle.slot.specs.declared.ending.End.{End}
 use Rattle.slot.specs.declared.ending.End.TheVariants.{Whole, Stopped}
 use Rattle.slot.specs.declared.ending.Report.{Report}
 use Rattle.slot.specs.declared.ending.Stop.TheVariants.{Deep, Spent, Full}
-use Rattle.sheet.specs.Sheets.{column, sheet, printing}
+use Rattle.sheet.specs.Sheets.{column, sheet}
 
 abbrev pub slot : Command → Hearing → ℕ → SlotRow
 slot command hearing waiting = record { command = command; hearing = hearing; waiting = waiting }
@@ -125,8 +125,8 @@ SheetsPrinted =
 unfoldable pub SheetRooms : Type 0
 SheetRooms =
     AllByRecursion {X = List ℕ × Answer × List ℕ}
-    (λ x. (answering (printing (sheet [] [] (report Whole 1 0 0 3)) (length x.0)) ≡ x.1)
-    × (leaving (printing (sheet [] [] (report Whole 1 0 0 3)) (length x.0)) x.0 ≡ x.2))
+    (λ x. (answering (writing (sheet [] [] (report Whole 1 0 0 3)) (length x.0)) ≡ x.1)
+    × (leaving (writing (sheet [] [] (report Whole 1 0 0 3)) (length x.0)) x.0 ≡ x.2))
     ((replicate 31 0xa5, told 31, replicate 5 0x20 ++ ((0x30 ∷ []) ++ (replicate 5 0x20 ++ ((0x31 ∷ []) ++ (replicate 5 0x20 ++ ((0x30 ∷ []) ++ (replicate 5 0x20 ++ ((0x30 ∷ []) ++ (replicate 5 0x20 ++ (0x33 ∷ 0x0a ∷ []))))))))))
     ∷ (replicate 30 0xa5, denied 5, replicate 30 0xa5)
     ∷ ([], denied 5, [])

@@ -1,9 +1,8 @@
 -- The printed sheet of a sweep, byte by byte. Assumes nothing.
-use Rattle.std.specs.Prelude.{ℕ, ◌+◌, ◌-◌, cond, List, [], ◌∷◌, ◌++◌, length, nat_lt, replicate, decimal}
+use Rattle.std.specs.Prelude.{ℕ, ◌+◌, ◌-◌, List, [], ◌∷◌, ◌++◌, length, replicate, decimal}
 use Rattle.std.specs.List.{flat_map}
 use Rattle.protocol.specs.Commands.{code_of}
 use Rattle.field.specs.Airs.{hearing_number}
-use Rattle.frame.specs.Makings.{Making, made, unmade}
 use Rattle.slot.specs.declared.row.SlotRow.{SlotRow}
 use Rattle.slot.specs.declared.ending.Report.{Report}
 use Rattle.slot.specs.Countings.{end_number}
@@ -43,7 +42,3 @@ last_line report =
 
 abbrev pub sheet : List SlotRow → List (List ℕ) → Report → List ℕ
 sheet slots serials report = slot_lines 1 slots ++ (serial_lines serials ++ last_line report)
-
--- Writing a sheet into a buffer with some room.
-abbrev pub printing : List ℕ → ℕ → Making
-printing bytes room = cond (nat_lt room (length bytes)) (unmade 5) (made bytes)

@@ -2,11 +2,11 @@
 #![tactic(auto)]
 
 ghost use Rattle.std.specs.Prelude.{◌≡◌, ◌≤◌, length};
-ghost use Rattle.frame.specs.Makings.{made, answering, leaving};
+ghost use Rattle.frame.specs.Makings.{made, answering, leaving, writing};
 ghost use Rattle.protocol.specs.Refusals.{told, answer_of};
 ghost use Rattle.sheet.specs.Listings.{Columns, SheetsPrinted, SheetRooms};
 ghost use Rattle.sheet.specs.Readings.{LinesReadBack};
-ghost use Rattle.sheet.specs.Sheets.{sheet, printing};
+ghost use Rattle.sheet.specs.Sheets.{sheet};
 
 mod front;
 mod paper;
@@ -28,8 +28,8 @@ pub fn write(
     report: &Report,
     buffer: &mut [u8],
 ) -> Result<usize, Refusal>
-    ensures answer { answer_of result ≡ answering (printing (sheet slots.now serials.now report.now) (length buffer.old)) }
-    ensures buffer { buffer.new ≡ leaving (printing (sheet slots.now serials.now report.now) (length buffer.old)) buffer.old }
+    ensures answer { answer_of result ≡ answering (writing (sheet slots.now serials.now report.now) (length buffer.old)) }
+    ensures buffer { buffer.new ≡ leaving (writing (sheet slots.now serials.now report.now) (length buffer.old)) buffer.old }
     ensures lines { LinesReadBack }
     ensures columns { Columns }
     ensures worked { SheetsPrinted }

@@ -16,7 +16,7 @@ use Rattle.std.specs.List.{flat_map, AllByRecursion}
 use Rattle.protocol.specs.declared.command.Command.{Command}
 use Rattle.protocol.specs.declared.command.Command.TheVariants.{Select, Query, Scroll, Write}
 use Rattle.protocol.specs.Refusals.{Answer, told, denied}
-use Rattle.frame.specs.Makings.{answering, leaving}
+use Rattle.frame.specs.Makings.{answering, leaving, writing}
 use Rattle.field.specs.declared.hearing.Hearing.{Hearing}
 use Rattle.field.specs.declared.hearing.Hearing.TheVariants.{Silence, Lone, Clash}
 use Rattle.slot.specs.declared.row.SlotRow.{SlotRow}
@@ -24,7 +24,7 @@ use Rattle.slot.specs.declared.ending.End.{End}
 use Rattle.slot.specs.declared.ending.End.TheVariants.{Whole, Stopped}
 use Rattle.slot.specs.declared.ending.Report.{Report}
 use Rattle.slot.specs.declared.ending.Stop.TheVariants.{Deep, Spent, Full}
-use Rattle.sheet.specs.Sheets.{column, sheet, printing}
+use Rattle.sheet.specs.Sheets.{column, sheet}
 
 abbrev pub slot : Command → Hearing → ℕ → SlotRow
 slot command hearing waiting = record { command = command; hearing = hearing; waiting = waiting }
@@ -190,7 +190,7 @@ fn rooms() -> Listing {
     Listing {
         about: "A buffer, the answer of writing a sheet of one line, and the buffer after it.",
         name: "SheetRooms",
-        law: "{X = List ℕ × Answer × List ℕ}\n    (λ x. (answering (printing (sheet [] [] (report Whole 1 0 0 3)) (length x.0)) ≡ x.1)\n    × (leaving (printing (sheet [] [] (report Whole 1 0 0 3)) (length x.0)) x.0 ≡ x.2))",
+        law: "{X = List ℕ × Answer × List ℕ}\n    (λ x. (answering (writing (sheet [] [] (report Whole 1 0 0 3)) (length x.0)) ≡ x.1)\n    × (leaving (writing (sheet [] [] (report Whole 1 0 0 3)) (length x.0)) x.0 ≡ x.2))",
         rows: [31, 30, 0, 33].iter().map(printing).collect(),
     }
 }
