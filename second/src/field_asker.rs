@@ -1,5 +1,6 @@
 //! Asks questions about fields, and knows what the tags have become meanwhile.
 
+use crate::asked;
 use crate::field::{Field, Hearing};
 use crate::field_question::{Play, Question};
 use crate::frame::{sealed_with, Name};
@@ -44,10 +45,7 @@ pub struct Asker {
     pub asked: Vec<Asked>,
 }
 
-pub struct Asked {
-    pub question: Question,
-    pub answer: String,
-}
+pub type Asked = asked::Asked<Question>;
 
 /// The ways to put a question.
 impl Asker {

@@ -1,5 +1,6 @@
 //! Writes questions about the chip and the answers expected to them.
 
+mod asked;
 mod by_hand;
 mod cases;
 mod crc;

@@ -1,5 +1,6 @@
 //! Asks for sweeps, and foresees what each of them would send.
 
+use crate::asked;
 use crate::field_asker::{self, Like};
 use crate::field_question;
 use crate::frame::{self, Name};
@@ -139,10 +140,7 @@ pub struct Asker {
     begun: usize,
 }
 
-pub struct Asked {
-    pub question: Question,
-    pub answer: String,
-}
+pub type Asked = asked::Asked<Question>;
 
 /// The ways to put a question.
 impl Asker {

@@ -392,14 +392,9 @@ mod tests {
 
     #[test]
     fn the_seed_settles_everything() {
-        let text = |seed| -> Vec<(String, String)> {
-            let asked = all(seed).into_iter();
-            asked
-                .map(|asked| (asked.question.to_string(), asked.answer))
-                .collect()
-        };
-        assert!(text(1) == text(1));
-        assert!(text(1) != text(2));
+        let texts = |seed| -> Vec<_> { all(seed).iter().map(Asked::texts).collect() };
+        assert!(texts(1) == texts(1));
+        assert!(texts(1) != texts(2));
     }
 
     #[test]

@@ -1,5 +1,6 @@
 //! Asks questions about one tag, and knows what the tag has become meanwhile.
 
+use crate::asked;
 use crate::cases::UNKNOWN_CODES;
 use crate::crc;
 use crate::frame::{self, sealed_with, Name, COMMANDS};
@@ -41,10 +42,7 @@ pub struct Asker {
     pub asked: Vec<Asked>,
 }
 
-pub struct Asked {
-    pub question: Question,
-    pub answer: String,
-}
+pub type Asked = asked::Asked<Question>;
 
 /// The ways to put a question.
 impl Asker {

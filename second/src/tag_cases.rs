@@ -483,22 +483,16 @@ mod tests {
 
     #[test]
     fn the_seed_settles_everything() {
-        let text = |seed| -> Vec<(String, String)> {
-            let asked = asker(seed).asked.into_iter();
-            asked
-                .map(|asked| (asked.question.to_string(), asked.answer))
-                .collect()
-        };
-        assert!(text(1) == text(1));
-        assert!(text(1) != text(2));
+        let texts = |seed| -> Vec<_> { asker(seed).asked.iter().map(Asked::texts).collect() };
+        assert!(texts(1) == texts(1));
+        assert!(texts(1) != texts(2));
     }
 
     #[test]
     fn neither_too_few_nor_too_much() {
         for seed in 1..=5 {
             let asked = asker(seed).asked;
-            let length = |asked: &Asked| asked.question.to_string().len() + asked.answer.len() + 2;
-            let size: usize = asked.iter().map(length).sum();
+            let size: usize = asked.iter().map(Asked::size).sum();
             let steps = asked
                 .iter()
                 .filter(|asked| matches!(asked.question, Question::Step { .. }));
