@@ -33,7 +33,7 @@ abbrev pub leaving : Making → List ℕ → List ℕ
 leaving (unmade n) buffer = buffer
 leaving (made frame) buffer = frame ++ drop (length frame) buffer
 
--- Writing some bytes, which are there already, into a buffer with some room.
+-- Writing some bytes into a buffer with some room: the bytes, or the refusal of a buffer too short.
 abbrev pub writing : List ℕ → ℕ → Making
 writing bytes room = cond (nat_lt room (length bytes)) (unmade 5) (made bytes)
 
