@@ -1,11 +1,10 @@
 // The questions about frames.
-use crate::QUESTIONS;
-use anyhow::bail;
 use crc::check_value;
 use frame::making::make;
 use frame::opening::{Frame, open};
 use protocol::command::PARAMETERS;
 use spelling::hexadecimal::{Hex, read_byte, read_bytes};
+use spelling::words::{no_word, word};
 use std::alloc::{AllocError, Global};
 use std::{fmt, iter};
 
@@ -34,7 +33,13 @@ fn filled(heap: Global, room: usize) -> Result<Vec<u8>, AllocError> {
         .collect(heap)
 }
 
-fn answer_open(rt: &HostRuntime, text: &str) -> anyhow::Result<()> {
+pub(crate) fn answer_check(rt: &HostRuntime, text: &str) -> anyhow::Result<()> {
+    let message = read_bytes(rt.alloc(), text)?;
+    println!(rt; "{:04X}", check_value(message.as_slice()))?;
+    Ok(())
+}
+
+pub(crate) fn answer_open(rt: &HostRuntime, text: &str) -> anyhow::Result<()> {
     let question = read_bytes(rt.alloc(), text)?;
     match open(question.as_slice()) {
         Ok(frame) => println!(rt; "{}", Opened { frame })?,
@@ -43,10 +48,13 @@ fn answer_open(rt: &HostRuntime, text: &str) -> anyhow::Result<()> {
     Ok(())
 }
 
-fn answer_make(rt: &HostRuntime, code: &str, text: &str, room: &str) -> anyhow::Result<()> {
-    let code = read_byte(code)?;
-    let parameters = read_bytes(rt.alloc(), text)?;
-    let mut buffer = filled(rt.alloc(), room.parse::<usize>()?)?;
+pub(crate) fn answer_make(rt: &HostRuntime, rest: &str) -> anyhow::Result<()> {
+    let mut words = rest.split_whitespace();
+    let code = read_byte(word(words.next())?)?;
+    let parameters = read_bytes(rt.alloc(), word(words.next())?)?;
+    let room = word(words.next())?.parse::<usize>()?;
+    no_word(words.next())?;
+    let mut buffer = filled(rt.alloc(), room)?;
     let made = make(code, parameters.as_slice(), buffer.as_mut_slice());
     let after = Hex::new(buffer.as_slice());
     match made {
@@ -54,19 +62,4 @@ fn answer_make(rt: &HostRuntime, code: &str, text: &str, room: &str) -> anyhow::
         Err(refusal) => println!(rt; "refused {} {after}", refusal.number())?,
     }
     Ok(())
-}
-
-pub(crate) fn answer(rt: &HostRuntime, line: &str) -> anyhow::Result<()> {
-    let mut words = line.split_whitespace();
-    // A match and no table of closures, since each verb has words of its own.
-    match (words.next(), words.next(), words.next(), words.next()) {
-        (Some("check"), Some(text), None, _) => {
-            let message = read_bytes(rt.alloc(), text)?;
-            println!(rt; "{:04X}", check_value(message.as_slice()))?;
-            Ok(())
-        }
-        (Some("open"), Some(text), None, _) => answer_open(rt, text),
-        (Some("make"), Some(code), Some(text), Some(room)) => answer_make(rt, code, text, room),
-        _ => bail!("{QUESTIONS}"),
-    }
 }

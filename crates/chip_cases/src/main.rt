@@ -7,6 +7,7 @@ mod frames;
 mod showing;
 mod tags;
 
+use crate::frames::{answer_check, answer_make, answer_open};
 use crate::tags::Asked;
 use anyhow::Context;
 use record::{SIZE, Tag};
@@ -18,9 +19,13 @@ const QUESTIONS: &str =
     "no question: one begins with `check`, `open`, `make`, `new`, `locks`, `set`, `step` or `gap`";
 
 fn answer(asked: &mut Asked<'_>, line: &str) -> anyhow::Result<()> {
-    match line.split_whitespace().next() {
-        Some("check" | "open" | "make") => frames::answer(asked.rt, line),
-        _ => asked.answer(line),
+    let (verb, rest) = line.split_once(' ').context(QUESTIONS)?;
+    // A match and no table of closures, since each verb has words of its own.
+    match verb {
+        "check" => answer_check(asked.rt, rest),
+        "open" => answer_open(asked.rt, rest),
+        "make" => answer_make(asked.rt, rest),
+        _ => asked.answer(verb, rest),
     }
 }
 

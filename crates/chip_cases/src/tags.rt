@@ -1,7 +1,7 @@
 // The questions about one tag.
 use crate::QUESTIONS;
 use crate::showing::Answer;
-use anyhow::{Context, bail};
+use anyhow::bail;
 use frame::opening::open;
 use record::{SIZE, State, Tag};
 use reply::Reply;
@@ -18,9 +18,9 @@ pub(crate) struct Asked<'a> {
 }
 
 impl Asked<'_> {
-    pub(crate) fn answer(&mut self, question: &str) -> anyhow::Result<()> {
+    pub(crate) fn answer(&mut self, verb: &str, rest: &str) -> anyhow::Result<()> {
         let before = self.tag;
-        let reply = self.put(question)?;
+        let reply = self.put(verb, rest)?;
         let bytes = replied(self.rt.alloc(), &self.tag, reply)?;
         let answer = Answer {
             before: &before,
@@ -32,8 +32,7 @@ impl Asked<'_> {
     }
 
     // Does to the tag what a question says, and tells its reply if it gives one.
-    fn put(&mut self, question: &str) -> anyhow::Result<Option<Reply>> {
-        let (verb, rest) = question.split_once(' ').context(QUESTIONS)?;
+    fn put(&mut self, verb: &str, rest: &str) -> anyhow::Result<Option<Reply>> {
         // A match and no table of closures, since each verb has words of its own.
         match verb {
             "new" => self.tag = Tag::new(read_array::<SIZE>(rest)?),

@@ -9,7 +9,7 @@ use anyhow::bail;
 use record::{SIZE, State, Tag};
 use spelling::hexadecimal::{read_array, read_byte, read_bytes};
 use spelling::misspelt::Misspelt;
-use spelling::words::{read_bit, read_locks, read_mark, read_permission, word};
+use spelling::words::{no_word, read_bit, read_locks, read_mark, read_permission, word};
 use std::alloc::Global;
 
 // The first bytes of a memory, whose others are 00.
@@ -29,7 +29,7 @@ fn read_memory(heap: Global, text: &str) -> anyhow::Result<[u8; SIZE]> {
 // here they make one: a type for the five would be taken apart at once in both.
 pub(crate) fn read_tag(heap: Global, text: &str) -> anyhow::Result<Tag> {
     let mut words = text.split_whitespace();
-    Ok(Tag {
+    let tag = Tag {
         state: word(words.next())?.parse::<State>()?,
         identified: read_bit(word(words.next())?)?,
         counter: read_byte(word(words.next())?)?,
@@ -37,7 +37,9 @@ pub(crate) fn read_tag(heap: Global, text: &str) -> anyhow::Result<Tag> {
         permission: read_permission(word(words.next())?)?,
         locks: read_locks(word(words.next())?)?,
         memory: read_memory(heap, word(words.next())?)?,
-    })
+    };
+    no_word(words.next())?;
+    Ok(tag)
 }
 
 // The first word of several, and what stands behind the space after it.
