@@ -2,7 +2,7 @@
 use Rattle.std.proofs.Common.{◌≡◌, ℕ, zero, suc, ◌+◌, ◌-◌, ◌%◌, ◌<◌, ◌≤◌, Bool, true, false, cond, ◌&&◌, ◌||◌, eqb, ltb, leb, List, length, get_or, set, Some, None, Option, sym, refl, ap, ◌∙◌, subst, ap₂, inl, inr, arith, ltb-true, le-ltb, lt-ltb, le-leb}
 use native.Mathlib.Nat.{add-sub_cancel_left}
 use borrow.Author.Tests.{not-true, both_ways}
-use Rattle.std.proofs.lemmas.List.{length-set, get_or_past, get_or-set_same, get_or-set_other}
+use Rattle.std.proofs.lemmas.List.{get_or_past, get_or-set_same, get_or-set_other}
 use Rattle.std.proofs.lemmas.Bool.{true≢false, cases_lt, and_left, and_right, and_parts, or_right, or_parts}
 use Rattle.std.proofs.lemmas.Bool.Decides.{nat_tests, leb_tells, eqb_tells}
 use Rattle.protocol.specs.declared.command.Command.TheVariants.{Select, UnselectNe, UnselectIdFlag, UnselectNoidFlag, Query, Scroll, Repeat, Reset, Read, Verify, Lock, Qlock, ReadFlexible, Write}
@@ -14,6 +14,7 @@ use Rattle.record.specs.declared.State.TheVariants.{Ready, Singulation, Inventor
 use Rattle.record.specs.declared.WriteMark.TheVariants.{Clear, Fresh}
 use Rattle.record.specs.declared.Tag.{Tag}
 use Rattle.record.specs.Masks.{selects, stored_at, stored}
+use Rattle.record.proofs.Sizes.{length-stored}
 use Rattle.tag.specs.Memories.{is_reached, stores_at, locks_at, Accounted}
 use Rattle.tag.specs.Orders.{damaged, unknown, byte_of}
 use Rattle.record.specs.Records.{locked_at, is_write_ok, in_state, permitting, marking, remembering, locking}
@@ -50,17 +51,6 @@ untouched o t u no_byte no-lock same =
       bytes = λ i. rw (no_byte i) (ap (λ (m : List ℕ). get_or m i 0) same.bytes);
       locks = λ i. rw (no-lock i) (ap (λ (l : List Bool). get_or l i true) same.locks ∙ or_nothing (locked_at t i));
     }
-
-length_either : (b : Bool) (x y : List ℕ) (n : ℕ) → length x ≡ n → length y ≡ n → length (cond b x y) ≡ n
-length_either true x y n p q = p
-length_either false x y n p q = q
-
-length-stored : (a mask : ℕ) (bytes memory : List ℕ) (n : ℕ) → length (stored a mask bytes memory n) ≡ length memory
-unfolding stored
-length-stored a mask bytes memory zero = refl
-length-stored a mask bytes memory (suc n) =
-    length_either (selects mask n) _ _ (length memory)
-    (length-set (stored a mask bytes memory n) (a + n) (get_or bytes n 0) ∙ length-stored a mask bytes memory n) (length-stored a mask bytes memory n)
 
 -- Whether one of the first n places from an address on is another address, and selected.
 abbrev is_within : ℕ → ℕ → ℕ → ℕ → Bool

@@ -1,3 +1,4 @@
 pub mod Accounts
 pub mod Limits
 pub mod Listed
+pub mod Sizes

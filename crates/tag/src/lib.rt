@@ -55,11 +55,11 @@ fn laws(tag: &Tag, opened: &Result<Frame<'_>, Refusal>, coin: bool)
     ensures residue { Residual (replied (seen opened.now) coin tag.now) }
     ensures counters { FullCounters }
 {
-    sizes(tag);
+    lengths(tag);
 }
 
 // Both rows of a record are as long as their types say, which a proof knows of a slice alone.
-fn sizes(tag: &Tag)
+fn lengths(tag: &Tag)
     ensures memory { length tag.now.memory ≡ 56 }
     ensures locks { length tag.now.locks ≡ 56 }
 {

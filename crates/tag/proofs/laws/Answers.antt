@@ -7,7 +7,7 @@ pub returns : goal.returns
 returns c =
     let frame : Opening = seen c.args.opened.now in
     record {
-      memory = accounted frame c.args.coin c.args.tag.now c.sizes.ensures.memory c.sizes.ensures.locks;
+      memory = accounted frame c.args.coin c.args.tag.now c.lengths.ensures.memory c.lengths.ensures.locks;
       residue = replied_residual frame c.args.coin c.args.tag.now;
       counters = full_counters;
     }
