@@ -1,12 +1,19 @@
 -- A reply buffer: set to 00, and a reply laid over its front. Assumes nothing.
-use Rattle.std.proofs.Common.{◌≡◌, ℕ, ◌-◌, ◌≤◌, List, [], ◌++◌, length, drop, replicate, sym, refl, ap, ◌∙◌, arith, le-ltb}
-use Rattle.std.proofs.lemmas.List.{append_assoc, length-append, length-replicate, drop-append-le, drop-replicate}
+use Rattle.std.proofs.Common.{◌≡◌, ℕ, ◌-◌, ◌≤◌, min, List, [], ◌++◌, length, take, drop, replicate, sym, refl, ap, ap₂, ◌∙◌, arith, le-ltb, ⊎_elim}
+use Rattle.std.proofs.lemmas.List.{append_assoc, length-append, length-replicate, length-take-le, drop-append-le, drop-replicate, drop_all}
+use Rattle.std.proofs.lemmas.Bool.{cases_lt}
 use Rattle.frame.specs.Makings.{leaving, writing}
-use Rattle.field.specs.Sends.{padded}
+use Rattle.field.specs.Sends.{padded, cleared}
 
 pub padded_none : (n : ℕ) → padded n [] ≡ replicate n 0
 unfolding padded
 padded_none n = ap (λ (k : ℕ). replicate k 0) (omega arith)
+
+-- A buffer that a send takes, cleared: nothing is heard.
+pub cleared_long : (b : List ℕ) → 258 ≤ length b → cleared b ≡ padded 258 [] ++ drop 258 b
+cleared_long b room =
+    let all : min (length b) 258 ≡ 258 = omega arith in
+    ap (λ (n : ℕ). replicate n 0 ++ drop 258 b) all ∙ sym (ap (λ (xs : List ℕ). xs ++ drop 258 b) (padded_none 258))
 
 -- A reply over the front of a buffer that is cleared.
 pub delivered : (n : ℕ) (reply b x y : List ℕ) → length reply ≤ n → n ≤ length b → x ≡ padded n [] ++ drop n b
@@ -20,3 +27,15 @@ delivered n reply b x y fits room e f =
     ∙ ap (λ (r : List ℕ). reply ++ drop (length reply) r) z
     ∙ ap (λ (r : List ℕ). reply ++ r) (drop-append-le (length reply) (replicate n 0) (drop n b) inside ∙ ap (λ (r : List ℕ). r ++ drop n b) (drop-replicate (length reply) n 0))
     ∙ sym (append_assoc reply (replicate (n - length reply) 0) (drop n b))
+
+behind : (b : List ℕ) (n : ℕ) → n ≡ min (length b) 258 → drop n b ≡ drop 258 b
+behind b n e =
+    ⊎_elim (λ short. drop_all n b (omega (arith, e)) ∙ sym (drop_all 258 b (omega arith)))
+    (λ long. let same : n ≡ 258 = omega (arith, e) in ap (λ (k : ℕ). drop k b) same) (cases_lt (length b) 258)
+
+-- What clearing leaves: 00 in front, and what was behind.
+pub cleared_front : (b x : List ℕ) (n : ℕ) → n ≡ min (length b) 258 → x ≡ replicate (length (take n b)) 0 → x ++ drop n b ≡ cleared b
+cleared_front b x n e f =
+    let inside : n ≤ length b = omega (arith, e) in
+    let size : length (take n b) ≡ min (length b) 258 = length-take-le n b inside ∙ e in
+    ap₂ (λ (y z : List ℕ). y ++ z) (f ∙ ap (λ (k : ℕ). replicate k 0) size) (behind b n e)

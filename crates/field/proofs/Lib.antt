@@ -1,4 +1,5 @@
+pub mod Airs
 pub mod Buffers
-pub mod Hearings
 pub mod Listed
+pub mod Sizes
 pub mod Walks

@@ -4,7 +4,7 @@ use Rattle.crc.specs.Check.{moved_up, bit_taken, bits, byte_taken, sealed}
 use Rattle.protocol.specs.Commands.{named}
 use Rattle.frame.specs.Openings.{opening, is_sealed, front, parameters_of}
 use Rattle.record.specs.Records.{bytes_from}
-use Rattle.field.specs.Listings.{Sends, Coins, MixedAirs, HeardAirs, SendCases, HearingsListed, Blends}
+use Rattle.field.specs.Listings.{Sends, Coins, MixedAirs, HeardAirs, SendCases, HearingsListed, HeardTogether}
 use Rattle.field.specs.Sends.{stepped_all, on_air, padded}
 
 pub send_cases : SendCases
@@ -15,6 +15,6 @@ pub hearings_listed : HearingsListed
 unfolding HearingsListed
 hearings_listed = search
 
-pub blends : Blends
-unfolding Blends
-blends = search
+pub heard_together : HeardTogether
+unfolding HeardTogether
+heard_together = search

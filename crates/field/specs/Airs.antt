@@ -1,14 +1,7 @@
 -- What is on the air after a frame, and what may be heard of it. Assumes nothing.
-use Rattle.std.specs.Prelude.{◌≡◌, ℕ, ◌<◌, Bool, true, false, ◌⊎◌, List, [], length, Some, None, codes, Option}
-use Rattle.std.specs.List.{slice_get}
-use Rattle.crc.specs.Check.{sealed}
-use Rattle.record.specs.declared.Tag.{Tag}
-use Rattle.reply.specs.declared.Reply.{Reply}
-use Rattle.reply.specs.Replies.{data_of}
+use Rattle.std.specs.Prelude.{◌≡◌, ℕ, Bool, true, false, ◌⊎◌, List, [], Some, None, codes, Option}
 use Rattle.field.specs.declared.hearing.Hearing.{Hearing}
 use Rattle.field.specs.declared.hearing.Hearing.TheVariants.{Silence, Lone, Clash}
-use Rattle.field.specs.declared.sound.Sound.{Sound}
-use Rattle.field.specs.declared.sound.Sound.TheVariants as sound
 
 -- The replies of a group of tags, all at once.
 pub data Air : Type 0 where
@@ -71,27 +64,10 @@ caught Silence air = []
 caught Lone air = only_reply air
 caught Clash air = []
 
--- The hearing in a sound.
-abbrev pub hearing_of : Sound → Hearing
-hearing_of sound.Silence = Silence
-hearing_of (sound.Lone place reply) = Lone
-hearing_of sound.Clash = Clash
-
--- Two sounds together, heard as one.
-abbrev pub blended : Sound → Sound → Sound
-blended sound.Silence other = other
-blended (sound.Lone place reply) sound.Silence = sound.Lone place reply
-blended (sound.Lone place reply) (sound.Lone p r) = sound.Clash
-blended (sound.Lone place reply) sound.Clash = sound.Clash
-blended sound.Clash other = sound.Clash
-
--- The bytes of a reply, by the tag that gives it.
-abbrev pub spoken : Option Tag → Reply → List ℕ
-spoken None reply = []
-spoken (Some tag) reply = sealed (data_of tag reply)
-
--- What a sound tells of the air, with the tags as the frame left them: a lone one is the reply of the tag at its place.
-abbrev pub Tells : Sound → List Tag → Air → Type 0
-Tells sound.Silence tags air = air ≡ silent
-Tells (sound.Lone place reply) tags air = (place < length tags) × (air ≡ one (spoken (slice_get tags place) reply))
-Tells sound.Clash tags air = is_silent air ≡ false
+-- What is heard of two groups at once: silence with x is x, and two that are not silent are a clash.
+abbrev pub together : Hearing → Hearing → Hearing
+together Silence other = other
+together Lone Silence = Lone
+together Lone Lone = Clash
+together Lone Clash = Clash
+together Clash other = Clash

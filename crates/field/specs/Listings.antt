@@ -9,12 +9,9 @@ use Rattle.record.specs.declared.State.TheVariants.{Ready, Singulation, Inventor
 use Rattle.record.specs.declared.WriteMark.TheVariants.{Clear}
 use Rattle.record.specs.declared.Tag.{Tag}
 use Rattle.record.specs.Listings.{first_two, tag_with}
-use Rattle.reply.specs.declared.Reply.TheVariants.{Serial}
 use Rattle.field.specs.declared.hearing.Hearing.{Hearing}
 use Rattle.field.specs.declared.hearing.Hearing.TheVariants.{Silence, Lone, Clash}
-use Rattle.field.specs.declared.sound.Sound.{Sound}
-use Rattle.field.specs.declared.sound.Sound.TheVariants as sound
-use Rattle.field.specs.Airs.{Air, silent, one, many, mixed, hearing_number, hearing_name, MayHear, plainly, hearing_of, blended}
+use Rattle.field.specs.Airs.{Air, silent, one, many, mixed, hearing_number, hearing_name, MayHear, plainly, together}
 use Rattle.field.specs.Sends.{coin_at, on_air, is_short, sent_to, left_in}
 
 -- A memory of which only the serial number's last byte is not 00.
@@ -242,19 +239,19 @@ HearingsListed =
     ∷ (Clash, 2, codes "clash")
     ∷ [])
 
--- Two sounds, what they are together, and the hearing in that.
-unfoldable pub Blends : Type 0
-Blends =
-    AllByRecursion {X = Sound × Sound × Sound × Hearing} (λ x. (blended x.0 x.1 ≡ x.2) × (hearing_of x.2 ≡ x.3))
-    ((sound.Silence, sound.Silence, sound.Silence, Silence)
-    ∷ (sound.Silence, sound.Lone 8 Serial, sound.Lone 8 Serial, Lone)
-    ∷ (sound.Silence, sound.Clash, sound.Clash, Clash)
-    ∷ (sound.Lone 1 Serial, sound.Silence, sound.Lone 1 Serial, Lone)
-    ∷ (sound.Lone 1 Serial, sound.Lone 8 Serial, sound.Clash, Clash)
-    ∷ (sound.Lone 1 Serial, sound.Clash, sound.Clash, Clash)
-    ∷ (sound.Clash, sound.Silence, sound.Clash, Clash)
-    ∷ (sound.Clash, sound.Lone 8 Serial, sound.Clash, Clash)
-    ∷ (sound.Clash, sound.Clash, sound.Clash, Clash)
+-- What two groups are heard as alone, and at once.
+unfoldable pub HeardTogether : Type 0
+HeardTogether =
+    AllByRecursion {X = Hearing × Hearing × Hearing} (λ x. together x.0 x.1 ≡ x.2)
+    ((Silence, Silence, Silence)
+    ∷ (Silence, Lone, Lone)
+    ∷ (Silence, Clash, Clash)
+    ∷ (Lone, Silence, Lone)
+    ∷ (Lone, Lone, Clash)
+    ∷ (Lone, Clash, Clash)
+    ∷ (Clash, Silence, Clash)
+    ∷ (Clash, Lone, Clash)
+    ∷ (Clash, Clash, Clash)
     ∷ [])
 
 -- What a send rests on.

@@ -1,5 +1,5 @@
 -- What a send and a gap do to a list of tags, whatever field they are in. Assumes nothing.
-use Rattle.std.specs.Prelude.{◌≡◌, ℕ, ◌-◌, ◌/◌, ◌%◌, ◌^◌, Bool, cond, List, [], ◌∷◌, ◌++◌, map, length, drop, replicate, Some, None, Ok, Err, Option, Result, ◌==◌, nat_lt}
+use Rattle.std.specs.Prelude.{◌≡◌, ℕ, ◌-◌, ◌/◌, ◌%◌, ◌^◌, Bool, cond, List, [], ◌∷◌, ◌++◌, map, min, length, drop, replicate, All, Some, None, Ok, Err, Option, Result, ◌==◌, nat_lt}
 use Rattle.std.specs.Option.{option_map}
 use Rattle.std.specs.List.{slice_get}
 use Rattle.protocol.specs.declared.refusal.Refusal.{Refusal}
@@ -54,11 +54,24 @@ refusal_in (Err e) = Some (number_of e)
 unfoldable pub padded : ℕ → List ℕ → List ℕ
 padded n bytes = bytes ++ replicate (n - length bytes) 0
 
+-- A buffer of which as much as a reply may take is set to 00.
+abbrev pub cleared : List ℕ → List ℕ
+cleared buffer = replicate (min (length buffer) 258) 0 ++ drop 258 buffer
+
 -- A reply buffer after a send: what is heard and 00 behind it, 258 bytes in all, and then what was there. A refusal
 -- changes nothing.
 abbrev pub left_in : Result Hearing Refusal → Air → List ℕ → List ℕ
 left_in (Ok h) air buffer = padded 258 (caught h air) ++ drop 258 buffer
 left_in (Err e) air buffer = buffer
+
+-- Each tag's memory has its 56 bytes.
+abbrev pub Sized : List Tag → Type 0
+Sized tags = All (λ t. length t.memory ≡ 56) tags
+
+-- What a kind promises of a send, by what is answered: something of what is heard, and of a refusal that nothing changes.
+abbrev pub Answered : {F : Type 0} → Result Hearing Refusal → (Hearing → Type 0) → F → F → Type 0
+Answered (Ok h) promise before after = promise h
+Answered (Err e) promise before after = after ≡ before
 
 -- No tag comes or goes, and what becomes of the tag at a place depends on nothing but that tag and its place.
 pub record InPlace (change : ℕ → Tag → Tag) (before after : List Tag) : Type 0 where

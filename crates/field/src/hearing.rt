@@ -1,7 +1,7 @@
 // What a reader hears after a frame.
 ghost use Rattle.std.specs.Prelude.{◌≡◌, Some};
-ghost use Rattle.field.specs.Airs.{hearing_number, hearing_name};
-ghost use Rattle.field.specs.Listings.{HearingsListed};
+ghost use Rattle.field.specs.Airs.{hearing_number, hearing_name, together};
+ghost use Rattle.field.specs.Listings.{HearingsListed, HeardTogether};
 
 use std::fmt;
 
@@ -32,6 +32,19 @@ impl Hearing {
             Hearing::Silence => "silence",
             Hearing::Lone => "lone",
             Hearing::Clash => "clash",
+        }
+    }
+
+    // What is heard of two groups of tags at once: two that are not silent are a clash.
+    #[tactic(auto, using(crate::proofs::Listed::heard_together))]
+    pub fn with(self, other: Hearing) -> Hearing
+        ensures hearing { result ≡ together self other }
+        ensures worked { HeardTogether }
+    {
+        match (self, other) {
+            (Hearing::Silence, heard) => heard,
+            (heard, Hearing::Silence) => heard,
+            _ => Hearing::Clash,
         }
     }
 }

@@ -7,7 +7,7 @@ use Rattle.field.specs.declared.hearing.Hearing.{Hearing}
 use Rattle.field.specs.declared.hearing.Hearing.TheVariants.{Silence, Lone, Clash}
 use Rattle.field.specs.Listings.{numbered}
 use Rattle.field.specs.Sends.{row_behind}
-use Rattle.layers.specs.Pairs.{fits, paired, together}
+use Rattle.layers.specs.Pairs.{fits, paired}
 use Rattle.layers.specs.Spoilers.{lones, spoiled}
 
 -- The tags of a pair, if it is made.
@@ -48,21 +48,6 @@ RowsBehind =
     ∷ (64, 0xffffffffffffffff, 0x0)
     ∷ [])
 
--- What two sides hear, and what their pair does.
-unfoldable pub HeardTogether : Type 0
-HeardTogether =
-    AllByRecursion {X = Hearing × Hearing × Hearing} (λ x. together x.0 x.1 ≡ x.2)
-    ((Silence, Silence, Silence)
-    ∷ (Silence, Lone, Lone)
-    ∷ (Silence, Clash, Clash)
-    ∷ (Lone, Silence, Lone)
-    ∷ (Lone, Lone, Clash)
-    ∷ (Lone, Clash, Clash)
-    ∷ (Clash, Silence, Clash)
-    ∷ (Clash, Lone, Clash)
-    ∷ (Clash, Clash, Clash)
-    ∷ [])
-
 -- What is heard from below, and how many lone replies that is.
 unfoldable pub LonesCounted : Type 0
 LonesCounted =
@@ -97,7 +82,6 @@ HeardSpoiled =
 pub record PairCases : Type 0 where
   pub made : PairsMade
   pub rows : RowsBehind
-  pub heard : HeardTogether
 
 -- What a spoiler rests on.
 pub record SpoilerCases : Type 0 where

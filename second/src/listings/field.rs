@@ -5,7 +5,7 @@ use super::crowd::{
 };
 use super::listing::{file as file_of, named_row, row, Listing};
 use super::term::{bytes, number, stretch, text, truth, wide, Term};
-use crate::field::{Field, Heard, Hearing, REPLY_ROOM};
+use crate::field::{Field, Hearing, REPLY_ROOM};
 use crate::frame::{sealed_with, Name};
 use crate::layers::{Pair, Spoiler};
 use crate::tag::Tag;
@@ -22,12 +22,9 @@ use Rattle.record.specs.declared.State.TheVariants.{Ready, Singulation, Inventor
 use Rattle.record.specs.declared.WriteMark.TheVariants.{Clear}
 use Rattle.record.specs.declared.Tag.{Tag}
 use Rattle.record.specs.Listings.{first_two, tag_with}
-use Rattle.reply.specs.declared.Reply.TheVariants.{Serial}
 use Rattle.field.specs.declared.hearing.Hearing.{Hearing}
 use Rattle.field.specs.declared.hearing.Hearing.TheVariants.{Silence, Lone, Clash}
-use Rattle.field.specs.declared.sound.Sound.{Sound}
-use Rattle.field.specs.declared.sound.Sound.TheVariants as sound
-use Rattle.field.specs.Airs.{Air, silent, one, many, mixed, hearing_number, hearing_name, MayHear, plainly, hearing_of, blended}
+use Rattle.field.specs.Airs.{Air, silent, one, many, mixed, hearing_number, hearing_name, MayHear, plainly, together}
 use Rattle.field.specs.Sends.{coin_at, on_air, is_short, sent_to, left_in}
 
 -- A memory of which only the serial number's last byte is not 00.
@@ -71,7 +68,7 @@ pub record SendCases : Type 0 where
 ";
 
 pub fn file() -> String {
-    let listings = [sends(), coins(), airs(), heard_airs(), hearings(), blends()];
+    let listings = [sends(), coins(), airs(), heard_airs(), hearings(), together()];
     file_of(HEAD, &listings) + TAIL
 }
 
@@ -201,34 +198,21 @@ fn heard_airs() -> Listing {
     }
 }
 
-/// A lone sound is told by the number of its tag, which stands for the place.
-fn sound(heard: Heard) -> (Term, Hearing) {
-    let term = match heard {
-        Heard::Silence => Term::word("sound.Silence"),
-        Heard::Lone(tag, _) => {
-            Term::call("sound.Lone", &[number(tag.memory[7]), Term::word("Serial")])
-        }
-        Heard::Clash => Term::word("sound.Clash"),
-    };
-    (term, hearing(heard))
-}
-
-fn blends() -> Listing {
+fn together() -> Listing {
     let mut rows = Vec::new();
     for left in groups(1) {
         for right in groups(8) {
-            let (on_left, _) = heard(&mut bench(left.clone()), sound);
-            let (on_right, _) = heard(&mut bench(right.clone()), sound);
+            let alone = [&left, &right].map(|side| heard(&mut bench(side.clone()), hearing));
             let pair = Pair::new(bench(left.clone()), bench(right));
             let mut pair = pair.expect("there are not too many places");
-            let (both, hearing) = heard(&mut pair, sound);
-            rows.push(row(&[on_left, on_right, both, hearing_term(hearing)]));
+            let both = heard(&mut pair, hearing);
+            rows.push(row(&[alone[0], alone[1], both].map(hearing_term)));
         }
     }
     Listing {
-        about: "Two sounds, what they are together, and the hearing in that.",
-        name: "Blends",
-        law: "{X = Sound × Sound × Sound × Hearing} (λ x. (blended x.0 x.1 ≡ x.2) × (hearing_of x.2 ≡ x.3))",
+        about: "What two groups are heard as alone, and at once.",
+        name: "HeardTogether",
+        law: "{X = Hearing × Hearing × Hearing} (λ x. together x.0 x.1 ≡ x.2)",
         rows,
     }
 }

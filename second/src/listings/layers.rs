@@ -16,7 +16,7 @@ use Rattle.field.specs.declared.hearing.Hearing.{Hearing}
 use Rattle.field.specs.declared.hearing.Hearing.TheVariants.{Silence, Lone, Clash}
 use Rattle.field.specs.Listings.{numbered}
 use Rattle.field.specs.Sends.{row_behind}
-use Rattle.layers.specs.Pairs.{fits, paired, together}
+use Rattle.layers.specs.Pairs.{fits, paired}
 use Rattle.layers.specs.Spoilers.{lones, spoiled}
 
 -- The tags of a pair, if it is made.
@@ -29,7 +29,6 @@ const TAIL: &str = "
 pub record PairCases : Type 0 where
   pub made : PairsMade
   pub rows : RowsBehind
-  pub heard : HeardTogether
 
 -- What a spoiler rests on.
 pub record SpoilerCases : Type 0 where
@@ -38,7 +37,7 @@ pub record SpoilerCases : Type 0 where
 ";
 
 pub fn file() -> String {
-    let listings = [pairs(), rows_behind(), together(), lones(), spoils()];
+    let listings = [pairs(), rows_behind(), lones(), spoils()];
     file_of(HEAD, &listings) + TAIL
 }
 
@@ -94,28 +93,6 @@ fn rows_behind() -> Listing {
             "How many places there are on the left of a pair, its row, and the row of its right.",
         name: "RowsBehind",
         law: "{X = ℕ × ℕ × ℕ} (λ x. row_behind x.0 x.1 ≡ x.2)",
-        rows,
-    }
-}
-
-fn together() -> Listing {
-    let mut rows = Vec::new();
-    for left in [0, 1, 2] {
-        for right in [0, 1, 2] {
-            let sides = (bench(selected(0..left)), bench(selected(8..8 + right)));
-            let pair = Pair::new(sides.0, sides.1);
-            let mut pair = pair.expect("there are not too many places");
-            rows.push(row(&[
-                hearing_term(heard_alone(left)),
-                hearing_term(heard_alone(right)),
-                hearing_term(heard(&mut pair, hearing)),
-            ]));
-        }
-    }
-    Listing {
-        about: "What two sides hear, and what their pair does.",
-        name: "HeardTogether",
-        law: "{X = Hearing × Hearing × Hearing} (λ x. together x.0 x.1 ≡ x.2)",
         rows,
     }
 }

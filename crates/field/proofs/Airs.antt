@@ -1,0 +1,25 @@
+-- The air is a monoid, and hearings go along with it. Assumes nothing.
+use Rattle.std.proofs.Common.{◌≡◌, refl}
+use Rattle.field.specs.Airs.{Air, silent, one, many, mixed, plainly, together}
+
+pub mixed_assoc : (a b c : Air) → mixed (mixed a b) c ≡ mixed a (mixed b c)
+mixed_assoc silent b c = refl
+mixed_assoc (one x) silent c = refl
+mixed_assoc (one x) (one y) silent = refl
+mixed_assoc (one x) (one y) (one z) = refl
+mixed_assoc (one x) (one y) many = refl
+mixed_assoc (one x) many c = refl
+mixed_assoc many b c = refl
+
+pub mixed_silent : (a : Air) → mixed a silent ≡ a
+mixed_silent silent = refl
+mixed_silent (one x) = refl
+mixed_silent many = refl
+
+-- What two groups are heard as at once, where each hears every lone reply as lone.
+pub plainly_both : (a b : Air) → together (plainly a) (plainly b) ≡ plainly (mixed a b)
+plainly_both silent b = refl
+plainly_both (one x) silent = refl
+plainly_both (one x) (one y) = refl
+plainly_both (one x) many = refl
+plainly_both many b = refl

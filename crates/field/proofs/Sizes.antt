@@ -1,0 +1,40 @@
+-- Memories keep their 56 bytes, whatever their tags meet. Assumes nothing.
+use Rattle.std.proofs.Common.{◌≡◌, ℕ, ◌/◌, Bool, true, false, cond, List, [], ◌∷◌, map, length, ◌∙◌}
+use Rattle.std.specs.List.{AllByRecursion}
+use Rattle.std.proofs.lemmas.List.Elements.{All-from_recursion, recursion_from_All}
+use Rattle.frame.specs.Openings.{Opening, opening}
+use Rattle.record.specs.declared.Tag.{Tag}
+use Rattle.record.specs.Gaps.{gapped}
+use Rattle.record.proofs.Sizes.{length-gapped}
+use Rattle.tag.proofs.Sizes.{length-stepped}
+use Rattle.field.specs.Sends.{first_coin, stepped_all, gapped_all, is_short, sent_to, Sized}
+
+abbrev pub IsSized : Tag → Type 0
+IsSized t = length t.memory ≡ 56
+
+stepped_each : (frame : Opening) (row : ℕ) (tags : List Tag) → AllByRecursion IsSized tags → AllByRecursion IsSized (stepped_all frame row tags)
+unfolding stepped_all
+stepped_each frame row [] h = tt
+stepped_each frame row (t ∷ ts) h = (length-stepped frame (first_coin row) t ∙ h.0, stepped_each frame (row / 2) ts h.1)
+
+each : (change : Tag → Tag) → ((t : Tag) → length (change t).memory ≡ length t.memory) → (tags : List Tag) → AllByRecursion IsSized tags
+    → AllByRecursion IsSized (map change tags)
+each change keeps [] h = tt
+each change keeps (t ∷ ts) h = (keeps t ∙ h.0, each change keeps ts h.1)
+
+pub sized_stepped : (frame : Opening) (row : ℕ) (tags : List Tag) → Sized tags → Sized (stepped_all frame row tags)
+sized_stepped frame row tags h = All-from_recursion IsSized _ (stepped_each frame row tags (recursion_from_All IsSized tags h))
+
+pub sized_sent : (room : ℕ) (bytes : List ℕ) (row : ℕ) (tags : List Tag) → Sized tags → Sized (sent_to room bytes row tags)
+sized_sent room bytes row tags h = go (is_short room)
+  where
+    go : (short : Bool) → Sized (cond short tags (stepped_all (opening bytes) row tags))
+    go true = h
+    go false = sized_stepped (opening bytes) row tags h
+
+-- What changes each tag and no memory's length.
+pub sized_each : (change : Tag → Tag) → ((t : Tag) → length (change t).memory ≡ length t.memory) → (tags : List Tag) → Sized tags → Sized (map change tags)
+sized_each change keeps tags h = All-from_recursion IsSized _ (each change keeps tags (recursion_from_All IsSized tags h))
+
+pub sized_gapped : (microseconds : ℕ) (tags : List Tag) → Sized tags → Sized (gapped_all microseconds tags)
+sized_gapped microseconds tags h = sized_each (gapped microseconds) (length-gapped microseconds) tags h
