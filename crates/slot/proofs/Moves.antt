@@ -5,13 +5,14 @@ use Rattle.std.proofs.lemmas.List.{length-append}
 use Rattle.std.specs.Prelude.{is_ok, IfOk, IfErr, OnErr, nat_le}
 use Rattle.protocol.specs.declared.command.Command.{Command}
 use Rattle.protocol.specs.declared.command.Command.TheVariants.{Scroll}
-use Rattle.frame.specs.Openings.{Opening}
-use Rattle.record.specs.declared.Tag.{Tag}
+use Rattle.frame.specs.Openings.{opening}
 use Rattle.rows.specs.declared.list.Rows.{Rows}
 use Rattle.rows.specs.Filling.{rows_of, room_of, is_full}
+use Rattle.field.specs.declared.field.Field.{Ghosts as Kind}
 use Rattle.field.specs.declared.hearing.Hearing.{Hearing}
 use Rattle.field.specs.declared.hearing.Hearing.TheVariants.{Silence, Lone, Clash}
 use Rattle.field.specs.Airs.{Air, MayHear, plainly}
+use Rattle.field.specs.Promises.{AfterSend}
 use Rattle.field.specs.Sends.{stepped_all, on_air}
 use Rattle.slot.specs.declared.counts.Counts.{Counts}
 use Rattle.slot.specs.declared.row.SlotRow.{SlotRow}
@@ -22,8 +23,9 @@ use Rattle.slot.specs.declared.lists.Lists.{Lists}
 use Rattle.slot.specs.Commands.{scroll, read}
 use Rattle.slot.specs.Countings.{sent_one, stop_number, counted}
 use Rattle.slot.specs.Slots.{standing, heard_in, Opened}
-use Rattle.slot.specs.Rules.{Setting, Play, in_reading, reads, read_by, in_silence, deed_in, commanding, closes, ended, opened_by, Deed, stops, opens, opening_slot, next_deed, air_of, done, went, may_hear, plain, played, Heard, replayed}
-use Rattle.slot.specs.Going.{setting, Where, Reaches, where_opened, StandsAt, EndsAt, Shows}
+use Rattle.slot.specs.Rules.{Setting, Play, in_reading, read_by, in_silence, deed_in, commanding, ended, opened_by, Deed, stops, opens, lists, reads, closes, rests, opening_slot, next_deed, air_of, done, went, may_hear, plain, played, Heard, replayed}
+use Rattle.slot.specs.Runs.{AfterDeed, GoesAlong, Reaches}
+use Rattle.slot.specs.Going.{setting, at_slot, over, where_opened, StandsAt, IsLed, Where}
 
 module _ (set : Setting) where
   heard_append : (hs ks : List Hearing) (p : Play) → Heard set hs p → Heard set ks (played set hs p) → Heard set (hs ++ ks) p
@@ -42,36 +44,70 @@ module _ (set : Setting) where
   replayed_add (suc m) n p =
       ap (λ (k : ℕ). replayed set k p) (let z : suc m + n ≡ suc (m + n) = omega arith in z) ∙ replayed_add m n (went set (plain set p) p)
 
-  module _ (faithful : Bool) where
-    pub reaches_self : (p : Play) → Reaches faithful set p p
-    unfolding Heard played replayed
-    reaches_self p = record { hearings = []; heard = tt; there = refl; plain = λ e. refl }
+-- No deed changes whether a field hears every lone reply as lone.
+deed_faithful : {F : Type 0} (kind : Kind F) (d : Deed) (h : Hearing) (before after : F) → AfterDeed kind d h before after
+    → kind.faithful after ≡ kind.faithful before
+deed_faithful kind (stops n) h before after a = ap kind.faithful a
+deed_faithful kind (opens c frame row g next) h before after a = a.as_faithful
+deed_faithful kind (lists serial) h before after a = ap kind.faithful a
+deed_faithful kind (reads serial) h before after a = a.as_faithful
+deed_faithful kind closes h before after a = a.as_faithful
+deed_faithful kind rests h before after a = ap kind.faithful a
 
-    pub reaches_more : (p q r : Play) → Reaches faithful set p q → Reaches faithful set q r → Reaches faithful set p r
-    reaches_more p q r a b =
-        record {
-          hearings = a.hearings ++ b.hearings;
-          heard = heard_append a.hearings b.hearings p a.heard (subst (Heard set b.hearings) a.there b.heard);
-          there = b.there ∙ ap (played set b.hearings) a.there ∙ sym (played_append a.hearings b.hearings p);
-          plain = λ e. b.plain e ∙ ap (replayed set (length b.hearings)) (a.plain e) ∙ sym (replayed_add (length a.hearings) (length b.hearings) p)
-              ∙ ap (λ (n : ℕ). replayed set n p) (sym (length-append a.hearings b.hearings));
-        }
+module _ {F : Type 0} (kind : Kind F) (set : Setting) where
+  goes_append : (hs ks : List Hearing) (p : Play) (a b c : F) → GoesAlong kind set hs p a b → GoesAlong kind set ks (played set hs p) b c
+      → GoesAlong kind set (hs ++ ks) p a c
+  unfolding GoesAlong played
+  goes_append [] ks p a b c first rest = subst (λ (x : F). GoesAlong kind set ks p x c) first rest
+  goes_append (h ∷ hs) ks p a b c first rest = (first.0, first.1, goes_append hs ks (went set h p) first.0 b c first.2 rest)
 
-    -- One deed.
-    pub reaches_by : (p : Play) (d : Deed) (h : Hearing) → next_deed set p ≡ d → MayHear (air_of d p.tags) h
-        → (faithful ≡ true → h ≡ plainly (air_of d p.tags)) → Reaches faithful set p (done d h p)
-    unfolding Heard played replayed went may_hear plain
-    reaches_by p d h e may only =
-        record {
-          hearings = h ∷ [];
-          heard = (subst (λ (x : Deed). MayHear (air_of x p.tags) h) (sym e) may, tt);
-          there = ap (λ (x : Deed). done x h p) (sym e);
-          plain = λ f. ap (λ (k : Hearing). done d k p) (only f) ∙ ap (λ (x : Deed). done x (plainly (air_of x p.tags)) p) (sym e);
-        }
+  pub goes_faithful : (hs : List Hearing) (p : Play) (a b : F) → GoesAlong kind set hs p a b → kind.faithful b ≡ kind.faithful a
+  unfolding GoesAlong
+  goes_faithful [] p a b goes = ap kind.faithful goes
+  goes_faithful (h ∷ hs) p a b goes =
+      goes_faithful hs (went set h p) goes.0 b goes.2 ∙ deed_faithful kind (next_deed set p) h a goes.0 goes.1
 
-    -- A stop, where nothing is sent.
-    pub reaches_stop : (p : Play) (n : ℕ) → next_deed set p ≡ stops n → Reaches faithful set p (done (stops n) Silence p)
-    reaches_stop p n e = reaches_by p (stops n) Silence e refl (λ f. refl)
+  pub reaches_self : (a : F) (p : Play) → Reaches kind set a a p p
+  unfolding Heard played replayed GoesAlong
+  reaches_self a p = record { hearings = []; heard = tt; there = refl; plain = λ e. refl; field = refl }
+
+  pub reaches_more : (a b c : F) (p q r : Play) → Reaches kind set a b p q → Reaches kind set b c q r → Reaches kind set a c p r
+  reaches_more a b c p q r first rest =
+      record {
+        hearings = first.hearings ++ rest.hearings;
+        heard = heard_append set first.hearings rest.hearings p first.heard (subst (Heard set rest.hearings) first.there rest.heard);
+        there = rest.there ∙ ap (played set rest.hearings) first.there ∙ sym (played_append set first.hearings rest.hearings p);
+        plain = λ e. rest.plain (goes_faithful first.hearings p a b first.field ∙ e) ∙ ap (replayed set (length rest.hearings)) (first.plain e)
+            ∙ sym (replayed_add set (length first.hearings) (length rest.hearings) p)
+            ∙ ap (λ (n : ℕ). replayed set n p) (sym (length-append first.hearings rest.hearings));
+        field = goes_append first.hearings rest.hearings p a b c first.field
+            (subst (λ (x : Play). GoesAlong kind set rest.hearings x b c) first.there rest.field);
+      }
+
+  -- One deed.
+  pub reaches_by : (p : Play) (d : Deed) (h : Hearing) (a b : F) → next_deed set p ≡ d → MayHear (air_of d p.tags) h
+      → (kind.faithful a ≡ true → h ≡ plainly (air_of d p.tags)) → AfterDeed kind d h a b → Reaches kind set a b p (done d h p)
+  unfolding Heard played replayed went may_hear plain GoesAlong
+  reaches_by p d h a b e may only after =
+      record {
+        hearings = h ∷ [];
+        heard = (subst (λ (x : Deed). MayHear (air_of x p.tags) h) (sym e) may, tt);
+        there = ap (λ (x : Deed). done x h p) (sym e);
+        plain = λ f. ap (λ (k : Hearing). done d k p) (only f) ∙ ap (λ (x : Deed). done x (plainly (air_of x p.tags)) p) (sym e);
+        field = (b, subst (λ (x : Deed). AfterDeed kind x h a b) (sym e) after, refl);
+      }
+
+  -- One that sends a frame.
+  pub reaches_sent : (p : Play) (d : Deed) (frame : List ℕ) (row : ℕ) (h : Hearing) (a b : F) → next_deed set p ≡ d → p.tags ≡ kind.tags a
+      → air_of d p.tags ≡ on_air (opening frame) row p.tags → (AfterSend kind frame row h a b → AfterDeed kind d h a b)
+      → AfterSend kind frame row h a b → Reaches kind set a b p (done d h p)
+  reaches_sent p d frame row h a b e tags air deed sent =
+      let same : air_of d p.tags ≡ on_air (opening frame) row (kind.tags a) = air ∙ ap (on_air (opening frame) row) tags in
+      reaches_by p d h a b e (subst (λ (x : Air). MayHear x h) (sym same) sent.may_be) (λ f. sent.plain f ∙ ap plainly (sym same)) (deed sent)
+
+  -- A stop, where nothing is sent.
+  pub reaches_stop : (p : Play) (n : ℕ) (a b : F) → next_deed set p ≡ stops n → b ≡ a → Reaches kind set a b p (done (stops n) Silence p)
+  reaches_stop p n a b e same = reaches_by p (stops n) Silence a b e refl (λ f. refl) same
 
 -- Whatever is heard, the slot's command is counted.
 pub counted_commands : (h : Hearing) (c : Counts) → (counted h c).commands ≡ c.commands + 1
@@ -100,105 +136,93 @@ silent_deed set p b e w =
 pub budget_deed : (set : Setting) (p : Play) (d : Deed) (b : Bool) → nat_le set.budget p.commands ≡ b → commanding set p d ≡ cond b (stops 8) d
 budget_deed set p d b e = ap (λ (x : Bool). cond x (stops 8) d) e
 
--- What a stop comes to: nothing has changed but that the sweep is over.
-pub stopped : (faithful : Bool) (set : Setting) (p : Play) (lists : Lists) (population : List Tag) (n : ℕ) (s : Stopped) → next_deed set p ≡ stops n
-    → stop_number s.stop ≡ n → p.commands ≡ s.counts.commands → p.slots ≡ rows_of lists.slots → p.serials ≡ rows_of lists.serials → p.tags ≡ population
-    → (q : Play) × Reaches faithful set p q × EndsAt (stop_number s.stop) s.counts lists population q
-stopped faithful set p lists population n s e en ec es el et =
-    (done (stops n) Silence p, reaches_stop set faithful p n e, record { phase = ap ended (sym en); commands = ec; slots = es; serials = el; tags = et })
-
--- What opening a slot comes to, whatever comes of it.
-module _ (faithful : Bool) (set : Setting) (p : Play) (command : Command) (frame : Opening) (row : ℕ) (from : Stand) (before after : Lists) (tags_before tags_after : List Tag) where
-  -- The deed, by the two tests before it.
-  deed_by : (d : Deed) (a b : Bool) → set.budget ≡ from.budget → p.commands ≡ from.counts.commands → set.slot_room ≡ room_of before.slots → p.slots ≡ rows_of before.slots
-      → nat_le from.budget from.counts.commands ≡ a → is_full before.slots ≡ b → opening_slot set p d ≡ cond a (stops 8) (cond b (stops 9) d)
-  deed_by d a b eb ec er es ea ef =
-      ap₂ (λ (x y : Bool). cond x (stops 8) (cond y (stops 9) d))
-      (ap₂ nat_le eb ec ∙ ea)
-      (ap₂ (λ (n : ℕ) (rows : List SlotRow). nat_le n (length rows)) er es ∙ ef)
-
-  module _ (eb : set.budget ≡ from.budget) (er : set.slot_room ≡ room_of before.slots) (ec : p.commands ≡ from.counts.commands)
-      (es : p.slots ≡ rows_of before.slots) (el : p.serials ≡ rows_of before.serials) (et : p.tags ≡ tags_before)
-      (next : next_deed set p ≡ opening_slot set p (opens command frame row from.waiting from.next)) where
-    opened_lem : (s : Slot) → next_deed set p ≡ opens command frame row from.waiting from.next
-        → Opened faithful command frame row from before after tags_before tags_after s
-        → (q : Play) × Reaches faithful set p q × Shows (where_opened (Ok s)) after tags_after q
-    opened_lem s e o =
-        let air : on_air frame row p.tags ≡ on_air frame row tags_before = ap (on_air frame row) et in (
-          done (opens command frame row from.waiting from.next) (heard_in s) p,
-          reaches_by set faithful p (opens command frame row from.waiting from.next) (heard_in s) e
-              (subst (λ (x : Air). MayHear x (heard_in s)) (sym air) o.may_be) (λ f. o.plain f ∙ ap plainly (sym air)),
-          record {
-            phase = ap (opened_by (heard_in s)) air ∙ sym o.phase;
-            waiting = ap (λ (x : Stand). x.waiting) (sym o.stand);
-            next = ap (λ (x : Stand). x.next) (sym o.stand);
-            commands = ap (λ (n : ℕ). n + 1) ec ∙ sym (ap (λ (x : Stand). x.counts.commands) o.stand ∙ counted_commands (heard_in s) from.counts);
-            slots = ap (λ (rows : List SlotRow). rows ++ record { command = command; hearing = heard_in s; waiting = from.waiting } ∷ []) es ∙ sym o.slots;
-            serials = el ∙ ap (λ (l : Rows (List ℕ)). rows_of l) (sym o.serials);
-            tags = ap (stepped_all frame row) et ∙ sym o.tags;
-          },
-        )
-
-    pub slot_opened : (r : Result Slot Stopped)
-        → is_ok r ≡ not (nat_le from.budget from.counts.commands || is_full before.slots)
-        → IfOk r (λ s. Opened faithful command frame row from before after tags_before tags_after s)
-        → IfErr r (λ s. (stop_number s.stop ≡ cond (nat_le from.budget from.counts.commands) 8 9) × (s.counts ≡ from.counts))
-        → OnErr r ((tags_after ≡ tags_before) × (after ≡ before))
-        → (q : Play) × Reaches faithful set p q × Shows (where_opened r) after tags_after q
-    slot_opened (Ok s) free o no_stop no_same =
-        let tests = neither (nat_le from.budget from.counts.commands) (is_full before.slots) free in
-        opened_lem s (next ∙ deed_by (opens command frame row from.waiting from.next) false false eb ec er es tests.0 tests.1)
-        o
-    slot_opened (Err s) caught no_slot stop same =
-        elim (either (nat_le from.budget from.counts.commands) (is_full before.slots) caught) [
-          | inl spent ↦ stopped faithful set p after tags_after 8 s
-              (next ∙ deed_by (opens command frame row from.waiting from.next) true (is_full before.slots) eb ec er es spent refl)
-              (stop.0 ∙ ap (λ (b : Bool). cond b 8 9) spent) (ec ∙ ap (λ (c : Counts). c.commands) (sym stop.1)) (es ∙ ap (λ (l : Lists). rows_of l.slots) (sym same.1)) (el ∙ ap (λ (l : Lists). rows_of l.serials) (sym same.1)) (et ∙ sym same.0)
-          | inr full ↦ stopped faithful set p after tags_after 9 s
-              (next ∙ deed_by (opens command frame row from.waiting from.next) false true eb ec er es full.0 full.1)
-              (stop.0 ∙ ap (λ (b : Bool). cond b 8 9) full.0) (ec ∙ ap (λ (c : Counts). c.commands) (sym stop.1)) (es ∙ ap (λ (l : Lists). rows_of l.slots) (sym same.1)) (el ∙ ap (λ (l : Lists). rows_of l.serials) (sym same.1)) (et ∙ sym same.0)
-        ]
-
--- A field that is as it was means what it meant.
-pub still : {X : Type 0} (tags : X → List Tag) (x y : X) (before after : Lists) (r : Result Slot Stopped) → OnErr r ((y ≡ x) × (after ≡ before))
-    → OnErr r ((tags y ≡ tags x) × (after ≡ before))
-still tags x y before after (Ok s) same = tt
-still tags x y before after (Err s) same = (ap tags same.0, same.1)
-
 -- The stand once one more command is sent.
 abbrev pub with_one : Stand → Stand
 with_one from = standing from.budget from.waiting from.next (sent_one from.counts)
 
--- One READ, however it is heard.
-pub read_once : (faithful : Bool) (set : Setting) (p : Play) (serial : List ℕ) (from : Stand) (lists : Lists) (before after : List Tag) (h : Hearing)
-    → StandsAt (in_reading serial) from lists before p → nat_le set.budget p.commands ≡ false → MayHear (on_air (read serial) 0 before) h
-    → (faithful ≡ true → h ≡ plainly (on_air (read serial) 0 before)) → after ≡ stepped_all (read serial) 0 before
-    → (q : Play) × Reaches faithful set p q × StandsAt (read_by h serial) (with_one from) lists after q
-read_once faithful set p serial from lists before after h s less may only e = (
-  done (reads serial) h p,
-  reaches_by set faithful p (reads serial) h (ap (deed_in set p) s.phase ∙ budget_deed set p (reads serial) false less)
-      (subst (λ (ts : List Tag). MayHear (on_air (read serial) 0 ts) h) (sym s.tags) may)
-      (λ f. only f ∙ ap (λ (ts : List Tag). plainly (on_air (read serial) 0 ts)) (sym s.tags)),
-  record {
-    phase = refl;
-    waiting = s.waiting;
-    next = s.next;
-    commands = ap (λ (n : ℕ). n + 1) s.commands;
-    slots = s.slots;
-    serials = s.serials;
-    tags = ap (stepped_all (read serial) 0) s.tags ∙ sym e;
-  },
-)
+module _ {F : Type 0} (kind : Kind F) where
+  -- What a stop comes to: nothing has changed but that the sweep is over.
+  pub stopped : (set : Setting) (p : Play) (held : Lists) (a b : F) (n : ℕ) (s : Stopped) → next_deed set p ≡ stops n → b ≡ a
+      → stop_number s.stop ≡ n → p.commands ≡ s.counts.commands → p.slots ≡ rows_of held.slots → p.serials ≡ rows_of held.serials → p.tags ≡ kind.tags a
+      → IsLed kind set p (over (stop_number s.stop) s.counts) a b held
+  stopped set p held a b n s e same en ec es el et =
+      (done (stops n) Silence p, reaches_stop kind set p n a b e same,
+        record { phase = ap ended (sym en); commands = ec; slots = es; serials = el; tags = et ∙ ap kind.tags (sym same) })
 
--- A sweep that is led to somewhere.
-abbrev pub Led : Bool → Setting → Play → Where → Lists → List Tag → Type 0
-Led faithful set p w lists population = (q : Play) × Reaches faithful set p q × Shows w lists population q
+  -- What opening a slot comes to, whatever comes of it.
+  module _ (set : Setting) (p : Play) (command : Command) (frame : List ℕ) (row : ℕ) (from : Stand) (before after : Lists) (a b : F) where
+    -- The deed, by the two tests before it.
+    deed_by : (d : Deed) (x y : Bool) → set.budget ≡ from.budget → p.commands ≡ from.counts.commands → set.slot_room ≡ room_of before.slots
+        → p.slots ≡ rows_of before.slots → nat_le from.budget from.counts.commands ≡ x → is_full before.slots ≡ y
+        → opening_slot set p d ≡ cond x (stops 8) (cond y (stops 9) d)
+    deed_by d x y eb ec er es ea ef =
+        ap₂ (λ (v w : Bool). cond v (stops 8) (cond w (stops 9) d))
+        (ap₂ nat_le eb ec ∙ ea)
+        (ap₂ (λ (n : ℕ) (rows : List SlotRow). nat_le n (length rows)) er es ∙ ef)
 
--- And from there to somewhere else, by a call that is lent as much.
-pub led_on : (faithful : Bool) (set later : Setting) (p q : Play) (w : Where) (lists : Lists) (population : List Tag) → Reaches faithful set p q → later ≡ set
-    → Led faithful later q w lists population → Led faithful set p w lists population
-led_on faithful set later p q w lists population first e rest =
-    (rest.0, reaches_more set faithful p q rest.0 first (subst (λ (x : Setting). Reaches faithful x q rest.0) e rest.1), rest.2)
+    module _ (eb : set.budget ≡ from.budget) (er : set.slot_room ≡ room_of before.slots) (ec : p.commands ≡ from.counts.commands)
+        (es : p.slots ≡ rows_of before.slots) (el : p.serials ≡ rows_of before.serials) (et : p.tags ≡ kind.tags a)
+        (next : next_deed set p ≡ opening_slot set p (opens command frame row from.waiting from.next)) where
+      opened_lem : (s : Slot) → next_deed set p ≡ opens command frame row from.waiting from.next
+          → Opened kind command frame row from before after a b s → IsLed kind set p (where_opened (Ok s)) a b after
+      opened_lem s e o = (
+        done (opens command frame row from.waiting from.next) (heard_in s) p,
+        reaches_sent kind set p (opens command frame row from.waiting from.next) frame row (heard_in s) a b e et refl (λ x. x) o.sent,
+        record {
+          phase = ap (λ x. opened_by (heard_in s) (on_air (opening frame) row x)) et ∙ sym o.phase;
+          waiting = ap (λ (x : Stand). x.waiting) (sym o.stand);
+          next = ap (λ (x : Stand). x.next) (sym o.stand);
+          commands = ap (λ (n : ℕ). n + 1) ec ∙ sym (ap (λ (x : Stand). x.counts.commands) o.stand ∙ counted_commands (heard_in s) from.counts);
+          slots = ap (λ (rows : List SlotRow). rows ++ record { command = command; hearing = heard_in s; waiting = from.waiting } ∷ []) es ∙ sym o.slots;
+          serials = el ∙ ap (λ (l : Rows (List ℕ)). rows_of l) (sym o.serials);
+          tags = ap (stepped_all (opening frame) row) et ∙ sym o.sent.tags;
+        },
+      )
+
+      pub slot_opened : (r : Result Slot Stopped)
+          → is_ok r ≡ not (nat_le from.budget from.counts.commands || is_full before.slots)
+          → IfOk r (λ s. Opened kind command frame row from before after a b s)
+          → IfErr r (λ s. (stop_number s.stop ≡ cond (nat_le from.budget from.counts.commands) 8 9) × (s.counts ≡ from.counts))
+          → OnErr r ((b ≡ a) × (after ≡ before)) → IsLed kind set p (where_opened r) a b after
+      slot_opened (Ok s) free o no_stop no_same =
+          let tests = neither (nat_le from.budget from.counts.commands) (is_full before.slots) free in
+          opened_lem s (next ∙ deed_by (opens command frame row from.waiting from.next) false false eb ec er es tests.0 tests.1) o
+      slot_opened (Err s) caught no_slot stop same =
+          let commands = ec ∙ ap (λ (c : Counts). c.commands) (sym stop.1) in
+          let slots = es ∙ ap (λ (l : Lists). rows_of l.slots) (sym same.1) in
+          let serials = el ∙ ap (λ (l : Lists). rows_of l.serials) (sym same.1) in
+          elim (either (nat_le from.budget from.counts.commands) (is_full before.slots) caught) [
+            | inl spent ↦ stopped set p after a b 8 s
+                (next ∙ deed_by (opens command frame row from.waiting from.next) true (is_full before.slots) eb ec er es spent refl) same.0
+                (stop.0 ∙ ap (λ (x : Bool). cond x 8 9) spent) commands slots serials et
+            | inr full ↦ stopped set p after a b 9 s
+                (next ∙ deed_by (opens command frame row from.waiting from.next) false true eb ec er es full.0 full.1) same.0
+                (stop.0 ∙ ap (λ (x : Bool). cond x 8 9) full.0) commands slots serials et
+          ]
+
+  -- One READ, however it is heard.
+  pub read_once : (set : Setting) (p : Play) (serial : List ℕ) (from : Stand) (held : Lists) (h : Hearing) (a b : F)
+      → StandsAt (in_reading serial) from held (kind.tags a) p → nat_le set.budget p.commands ≡ false → AfterSend kind (read serial) 0 h a b
+      → IsLed kind set p (at_slot (read_by h serial) (with_one from)) a b held
+  read_once set p serial from held h a b s less sent = (
+    done (reads serial) h p,
+    reaches_sent kind set p (reads serial) (read serial) 0 h a b (ap (deed_in set p) s.phase ∙ budget_deed set p (reads serial) false less) s.tags refl (λ x. x) sent,
+    record {
+      phase = refl;
+      waiting = s.waiting;
+      next = s.next;
+      commands = ap (λ (n : ℕ). n + 1) s.commands;
+      slots = s.slots;
+      serials = s.serials;
+      tags = ap (stepped_all (opening (read serial)) 0) s.tags ∙ sym sent.tags;
+    },
+  )
+
+  -- From there to somewhere else, by a call that is lent as much.
+  pub led_on : (set later : Setting) (p q : Play) (to : Where) (a b c : F) (held : Lists) → Reaches kind set a b p q → later ≡ set
+      → IsLed kind later q to b c held → IsLed kind set p to a c held
+  led_on set later p q to a b c held first e rest =
+      (rest.0, reaches_more kind set a b c p q rest.0 first (subst (λ (x : Setting). Reaches kind x b c q rest.0) e rest.1), rest.2)
 
 -- What a call is lent is the same before and after it.
 pub setting_same : (coins : List ℕ) (b c : ℕ) (before after : Lists) → c ≡ b → room_of after.slots ≡ room_of before.slots → room_of after.serials ≡ room_of before.serials

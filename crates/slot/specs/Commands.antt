@@ -4,7 +4,6 @@ use Rattle.crc.specs.Check.{sealed}
 use Rattle.protocol.specs.declared.command.Command.{Command}
 use Rattle.protocol.specs.declared.command.Command.TheVariants.{Select, Query, Scroll, Repeat, Read}
 use Rattle.protocol.specs.Commands.{code_of}
-use Rattle.frame.specs.Openings.{Opening, opening}
 use Rattle.field.specs.declared.hearing.Hearing.{Hearing}
 use Rattle.field.specs.Airs.{Air, caught}
 use Rattle.field.specs.Sends.{padded}
@@ -24,21 +23,21 @@ wanted = 0x00 ∷ 0xc0 ∷ word
 abbrev pub target : List ℕ → List ℕ
 target serial = serial ++ 0x00 ∷ []
 
--- What tags make of each command's frame.
-unfoldable pub select : Opening
-select = opening (frame_of Select wanted)
+-- The frame of each command.
+unfoldable pub select : List ℕ
+select = frame_of Select wanted
 
-unfoldable pub query : Opening
-query = opening (frame_of Query [])
+unfoldable pub query : List ℕ
+query = frame_of Query []
 
-unfoldable pub scroll : Opening
-scroll = opening (frame_of Scroll [])
+unfoldable pub scroll : List ℕ
+scroll = frame_of Scroll []
 
-unfoldable pub again : Opening
-again = opening (frame_of Repeat [])
+unfoldable pub again : List ℕ
+again = frame_of Repeat []
 
-unfoldable pub read : List ℕ → Opening
-read serial = opening (frame_of Read (target serial))
+unfoldable pub read : List ℕ → List ℕ
+read serial = frame_of Read (target serial)
 
 -- The serial number in a reply: the first eight bytes of what stands in the reply buffer.
 unfoldable pub serial_in : Hearing → Air → List ℕ

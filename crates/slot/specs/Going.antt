@@ -1,9 +1,9 @@
 -- How the rule takes a sweep from one call to the next. Assumes nothing.
-use Rattle.std.specs.Prelude.{◌≡◌, ℕ, ◌≤◌, Bool, true, ◌&&◌, List, ◌∷◌, [], ◌++◌, length, Some, None, Ok, Err, Option, Result, nat_le}
+use Rattle.std.specs.Prelude.{◌≡◌, ℕ, ◌≤◌, Bool, ◌&&◌, List, ◌∷◌, [], ◌++◌, length, Some, None, Ok, Err, Option, Result, nat_le}
 use Rattle.protocol.specs.Refusals.{number_of}
 use Rattle.record.specs.declared.Tag.{Tag}
 use Rattle.rows.specs.Filling.{rows_of, room_of, Behind}
-use Rattle.field.specs.declared.hearing.Hearing.{Hearing}
+use Rattle.field.specs.declared.field.Field.{Ghosts as Kind}
 use Rattle.protocol.specs.declared.command.Command.{Command}
 use Rattle.protocol.specs.declared.command.Command.TheVariants.{Query, Scroll}
 use Rattle.slot.specs.declared.row.SlotRow.{SlotRow}
@@ -13,26 +13,16 @@ use Rattle.slot.specs.declared.kinds.Stand.{Stand}
 use Rattle.slot.specs.declared.kinds.Slot.{Slot}
 use Rattle.slot.specs.declared.kinds.ClashSlot.{ClashSlot}
 use Rattle.slot.specs.declared.kinds.SilentSlot.{SilentSlot}
+use Rattle.slot.specs.declared.kinds.LoneSlot.{LoneSlot}
 use Rattle.slot.specs.declared.kinds.Left.{Left}
 use Rattle.slot.specs.declared.kinds.Left.TheVariants as left
 use Rattle.slot.specs.declared.kinds.Unsplit.{Unsplit}
 use Rattle.slot.specs.declared.kinds.Unsplit.TheVariants as unsplit
 use Rattle.slot.specs.declared.lists.Lists.{Lists}
 use Rattle.slot.specs.Countings.{stop_number, counted, sent_one}
-use Rattle.slot.specs.Rules.{Setting, Phase, Play, in_silence, in_clash, ended, played, Heard, replayed}
+use Rattle.slot.specs.Rules.{Setting, Phase, Play, beginning, in_silence, in_lone, in_clash, ended}
+use Rattle.slot.specs.Runs.{Reaches}
 use Rattle.slot.specs.Slots.{heard_in, phase_of, stand_of}
-
--- From one moment of a sweep to a later one: by hearings such as may come, and where every lone reply is heard as lone,
--- by nothing but the rule.
-pub record Reaches (faithful : Bool) (set : Setting) (p q : Play) : Type 0 where
-  pub hearings : List Hearing
-  pub heard : Heard set hearings p
-  pub there : q ≡ played set hearings p
-  pub plain : faithful ≡ true → q ≡ replayed set (length hearings) p
-
--- From each moment that is so, the rule reaches one that is as told.
-abbrev pub GoesOn : Bool → Setting → (Play → Type 0) → (Play → Type 0) → Type 0
-GoesOn faithful set before after = (p : Play) → before p → (q : Play) × Reaches faithful set p q × after q
 
 -- What a call is lent for a sweep.
 abbrev pub setting : List ℕ → ℕ → Lists → Setting
@@ -46,6 +36,24 @@ pub data Where : Type 0 where
   -- at its end, by the end's number
   over : ℕ → Counts → Where
 
+-- The slots, as those who hold them see them.
+abbrev pub at_silent : SilentSlot → Where
+at_silent s = at_slot in_silence s.stand
+
+abbrev pub at_lone : LoneSlot → Where
+at_lone s = at_slot (in_lone s.serial) s.stand
+
+abbrev pub at_clash : ClashSlot → Where
+at_clash s = at_slot in_clash s.stand
+
+-- The serial number that was heard in a lone slot.
+abbrev pub serial_heard : LoneSlot → List ℕ
+serial_heard s = s.serial
+
+abbrev pub budget_in : Where → ℕ
+budget_in (at_slot phase stand) = stand.budget
+budget_in (over number counts) = 0
+
 -- The answers of the calls.
 abbrev pub where_opened : Result Slot Stopped → Where
 where_opened (Ok s) = at_slot (phase_of s) (stand_of s)
@@ -53,11 +61,11 @@ where_opened (Err s) = over (stop_number s.stop) s.counts
 
 abbrev pub where_split : Result Slot Unsplit → Where
 where_split (Ok s) = at_slot (phase_of s) (stand_of s)
-where_split (Err (unsplit.Refused d)) = at_slot in_clash d.given.stand
+where_split (Err (unsplit.Refused d)) = at_clash d.given
 where_split (Err (unsplit.Stopped s)) = over (stop_number s.stop) s.counts
 
 abbrev pub where_read : Result SilentSlot Stopped → Where
-where_read (Ok s) = at_slot in_silence s.stand
+where_read (Ok s) = at_silent s
 where_read (Err s) = over (stop_number s.stop) s.counts
 
 abbrev pub where_left : Result Left Stopped → Where
@@ -90,6 +98,21 @@ pub record EndsAt (number : ℕ) (counts : Counts) (lists : Lists) (population :
 abbrev pub Shows : Where → Lists → List Tag → Play → Type 0
 Shows (at_slot phase stand) = StandsAt phase stand
 Shows (over number counts) = EndsAt number counts
+
+-- A sweep that is led from one moment to another, which is as a call tells, with the field before and after.
+abbrev pub IsLed : {F : Type 0} → Kind F → Setting → Play → Where → F → F → Lists → Type 0
+IsLed kind set p to field field_after lists_after =
+    (q : Play) × Reaches kind set field field_after p q × Shows to lists_after (kind.tags field_after) q
+
+-- A call that begins a sweep.
+abbrev pub Begins : {F : Type 0} → Kind F → Setting → Where → F → F → Lists → Type 0
+Begins kind set to field field_after lists_after = IsLed kind set (beginning (kind.tags field)) to field field_after lists_after
+
+-- A call that goes on with a sweep, from each moment at which it may stand so.
+abbrev pub Leads : {F : Type 0} → Kind F → List ℕ → Where → Where → F → F → Lists → Lists → Type 0
+Leads kind coins from to field field_after lists lists_after =
+    (p : Play) → Shows from lists (kind.tags field) p
+    → IsLed kind (setting coins (budget_in from) lists) p to field field_after lists_after
 
 abbrev pub counts_in : Where → Counts
 counts_in (at_slot phase stand) = stand.counts

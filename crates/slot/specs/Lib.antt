@@ -2,5 +2,5 @@ pub mod Commands
 pub mod Countings
 pub mod Going
 pub mod Rules
-pub mod Sendings
+pub mod Runs
 pub mod Slots

@@ -2,7 +2,7 @@
 use Rattle.std.specs.Prelude.{ℕ, zero, suc, ◌+◌, ◌-◌, ◌%◌, cond, List, [], ◌∷◌, ◌++◌, length, nat_le, nat_eq, slice_index}
 use Rattle.protocol.specs.declared.command.Command.{Command}
 use Rattle.protocol.specs.declared.command.Command.TheVariants.{Select, Query, Scroll}
-use Rattle.frame.specs.Openings.{Opening}
+use Rattle.frame.specs.Openings.{opening}
 use Rattle.record.specs.declared.Tag.{Tag}
 use Rattle.field.specs.declared.hearing.Hearing.{Hearing}
 use Rattle.field.specs.declared.hearing.Hearing.TheVariants.{Silence, Lone, Clash}
@@ -55,14 +55,14 @@ beginning tags =
 pub data Deed : Type 0 where
   -- stops, by the stop's number
   stops : ℕ → Deed
-  -- sends a command that opens a slot: which, what tags make of it, the row of coins that goes with it, G from now on,
-  -- and the place of the row to draw next
-  opens : Command → Opening → ℕ → ℕ → ℕ → Deed
+  -- sends a command that opens a slot: which, its frame, the row of coins that goes with it, G from now on, and the place
+  -- of the row to draw next
+  opens : Command → List ℕ → ℕ → ℕ → ℕ → Deed
   -- lists a serial number
   lists : List ℕ → Deed
-  -- sends READ
+  -- sends READ, with row 0
   reads : List ℕ → Deed
-  -- sends the closing REPEAT
+  -- sends the closing REPEAT, with row 0
   closes : Deed
   -- has ended
   rests : Deed
@@ -98,10 +98,10 @@ next_deed set p = deed_in set p p.phase
 -- What is then on the air.
 abbrev pub air_of : Deed → List Tag → Air
 air_of (stops n) tags = silent
-air_of (opens c frame row g next) tags = on_air frame row tags
+air_of (opens c frame row g next) tags = on_air (opening frame) row tags
 air_of (lists serial) tags = silent
-air_of (reads serial) tags = on_air (read serial) 0 tags
-air_of closes tags = on_air again 0 tags
+air_of (reads serial) tags = on_air (opening (read serial)) 0 tags
+air_of closes tags = on_air (opening again) 0 tags
 air_of rests tags = silent
 
 -- The phase that a slot opens with.
@@ -131,14 +131,14 @@ done (stops n) h p =
     }
 done (opens c frame row g next) h p =
     record {
-      phase = opened_by h (on_air frame row p.tags);
+      phase = opened_by h (on_air (opening frame) row p.tags);
       waiting = g;
       next = next;
       commands = p.commands + 1;
       reads = p.reads;
       slots = p.slots ++ record { command = c; hearing = h; waiting = g } ∷ [];
       serials = p.serials;
-      tags = stepped_all frame row p.tags;
+      tags = stepped_all (opening frame) row p.tags;
     }
 done (lists serial) h p =
     record {
@@ -160,7 +160,7 @@ done (reads serial) h p =
       reads = p.reads + 1;
       slots = p.slots;
       serials = p.serials;
-      tags = stepped_all (read serial) 0 p.tags;
+      tags = stepped_all (opening (read serial)) 0 p.tags;
     }
 done closes h p =
     record {
@@ -171,7 +171,7 @@ done closes h p =
       reads = p.reads;
       slots = p.slots;
       serials = p.serials;
-      tags = stepped_all again 0 p.tags;
+      tags = stepped_all (opening again) 0 p.tags;
     }
 done rests h p = p
 

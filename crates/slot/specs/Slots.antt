@@ -1,13 +1,13 @@
 -- What slots, answers and stops say, by numbers and in the words of the rule. Assumes nothing.
-use Rattle.std.specs.Prelude.{◌≡◌, ℕ, Bool, true, List, [], ◌∷◌, ◌++◌}
+use Rattle.std.specs.Prelude.{◌≡◌, ℕ, List, [], ◌∷◌, ◌++◌}
 use Rattle.protocol.specs.declared.command.Command.{Command}
-use Rattle.frame.specs.Openings.{Opening}
-use Rattle.record.specs.declared.Tag.{Tag}
+use Rattle.frame.specs.Openings.{opening}
 use Rattle.rows.specs.Filling.{rows_of, Behind}
 use Rattle.field.specs.declared.hearing.Hearing.{Hearing}
 use Rattle.field.specs.declared.hearing.Hearing.TheVariants as hearing
-use Rattle.field.specs.Airs.{MayHear, plainly}
-use Rattle.field.specs.Sends.{stepped_all, on_air}
+use Rattle.field.specs.declared.field.Field.{Ghosts as Kind}
+use Rattle.field.specs.Promises.{AfterSend}
+use Rattle.field.specs.Sends.{on_air}
 use Rattle.slot.specs.declared.counts.Counts.{Counts}
 use Rattle.slot.specs.declared.kinds.Stand.{Stand}
 use Rattle.slot.specs.declared.kinds.Slot.{Slot}
@@ -43,12 +43,10 @@ abbrev pub standing : ℕ → ℕ → ℕ → Counts → Stand
 standing budget waiting next counts = record { budget = budget; waiting = waiting; next = next; counts = counts }
 
 -- What opening a slot does where nothing stops it.
-pub record Opened (faithful : Bool) (command : Command) (frame : Opening) (row : ℕ) (from : Stand) (before after : Lists) (tags_before tags_after : List Tag) (opened : Slot) : Type 0 where
-  pub may_be : MayHear (on_air frame row tags_before) (heard_in opened)
-  pub plain : faithful ≡ true → heard_in opened ≡ plainly (on_air frame row tags_before)
-  pub phase : phase_of opened ≡ opened_by (heard_in opened) (on_air frame row tags_before)
+pub record Opened {F : Type 0} (kind : Kind F) (command : Command) (frame : List ℕ) (row : ℕ) (from : Stand) (before after : Lists) (field field_after : F) (opened : Slot) : Type 0 where
+  pub sent : AfterSend kind frame row (heard_in opened) field field_after
+  pub phase : phase_of opened ≡ opened_by (heard_in opened) (on_air (opening frame) row (kind.tags field))
   pub stand : stand_of opened ≡ standing from.budget from.waiting from.next (counted (heard_in opened) from.counts)
   pub slots : rows_of after.slots ≡ rows_of before.slots ++ record { command = command; hearing = heard_in opened; waiting = from.waiting } ∷ []
   pub behind : Behind before.slots after.slots
   pub serials : after.serials ≡ before.serials
-  pub tags : tags_after ≡ stepped_all frame row tags_before

@@ -1,9 +1,9 @@
 // Sending one command, made from its code and parameters.
-ghost use Rattle.std.specs.Prelude.{◌≡◌, ◌+◌, ◌≤◌, true, length, take};
+ghost use Rattle.std.specs.Prelude.{◌≡◌, ◌+◌, ◌≤◌, length, take};
 ghost use Rattle.frame.specs.Openings.{opening};
 ghost use Rattle.protocol.specs.Commands.{length_of};
-ghost use Rattle.field.specs.Airs.{MayHear, plainly};
-ghost use Rattle.field.specs.Sends.{stepped_all, on_air};
+ghost use Rattle.field.specs.Promises.{AfterSend};
+ghost use Rattle.field.specs.Sends.{on_air};
 ghost use Rattle.slot.specs.Commands.{frame_of, serial_in};
 
 use crate::row::Serial;
@@ -26,11 +26,9 @@ pub(crate) struct Answer {
 // Sends a command with parameters that fit it.
 pub(crate) fn ask<F: Field>(field: &mut F, command: Command, parameters: &[u8], row: u64) -> Answer
     requires { length parameters.now + 3 ≡ length_of command }
-    ensures tags { F.tags field.new ≡ stepped_all (opening (frame_of command parameters.now)) row (F.tags field.old) }
-    ensures hearing { MayHear (on_air (opening (frame_of command parameters.now)) row (F.tags field.old)) result.hearing }
-    ensures faithful { F.faithful ≡ true → result.hearing ≡ plainly (on_air (opening (frame_of command parameters.now)) row (F.tags field.old)) }
-    ensures serial { result.serial ≡ serial_in result.hearing (on_air (opening (frame_of command parameters.now)) row (F.tags field.old)) }
-    ensures kind { F.hears field.old (opening (frame_of command parameters.now)) row result.hearing field.new }
+    ensures sent { AfterSend F.Field (frame_of command parameters.now) row result.hearing field.old field.new }
+    ensures serial { result.serial ≡
+        serial_in result.hearing (on_air (opening (frame_of command parameters.now)) row (F.tags field.old)) }
 {
     let mut frame = [0; LONGEST];
     let length = put_frame(command, parameters, &mut frame);
@@ -52,11 +50,8 @@ fn put_frame(command: Command, parameters: &[u8], frame: &mut [u8]) -> usize
 
 // Sends a frame, and takes the serial number from the reply.
 fn transmit<F: Field>(field: &mut F, bytes: &[u8], row: u64) -> Answer
-    ensures tags { F.tags field.new ≡ stepped_all (opening bytes.now) row (F.tags field.old) }
-    ensures hearing { MayHear (on_air (opening bytes.now) row (F.tags field.old)) result.hearing }
-    ensures faithful { F.faithful ≡ true → result.hearing ≡ plainly (on_air (opening bytes.now) row (F.tags field.old)) }
+    ensures sent { AfterSend F.Field bytes.now row result.hearing field.old field.new }
     ensures serial { result.serial ≡ serial_in result.hearing (on_air (opening bytes.now) row (F.tags field.old)) }
-    ensures kind { F.hears field.old (opening bytes.now) row result.hearing field.new }
 {
     let mut reply = [0; ROOM];
     let mut serial = [0; SERIAL];

@@ -1,6 +1,5 @@
 // Sending a command that opens a slot.
 ghost use Rattle.std.specs.Prelude.{◌≡◌, ◌+◌, ◌<◌, false, not, ◌||◌, length, is_ok, IfOk, IfErr, OnErr, if◌then◌else◌, nat_le};
-ghost use Rattle.frame.specs.Openings.{opening};
 ghost use Rattle.protocol.specs.Commands.{length_of};
 ghost use Rattle.rows.specs.Filling.{is_full};
 ghost use Rattle.slot.specs.Commands.{frame_of};
@@ -64,9 +63,10 @@ pub(crate) fn open_slot<F: Field>(
 ) -> Result<Slot, Stopped>
     requires { length parameters.now + 3 ≡ length_of command }
     ensures done { is_ok result ≡ not (nat_le stand.budget stand.counts.commands || is_full lists.old.slots) }
-    ensures opened { IfOk result (λ s. Opened F.faithful command (opening (frame_of command parameters.now)) row stand lists.old lists.new (F.tags field.old) (F.tags field.new) s) }
-    ensures kind { IfOk result (λ s. F.hears field.old (opening (frame_of command parameters.now)) row (heard_in s) field.new) }
-    ensures stopped { IfErr result (λ s. (stop_number s.stop ≡ (if nat_le stand.budget stand.counts.commands then 8 else 9)) × (s.counts ≡ stand.counts)) }
+    ensures opened { IfOk result (λ s. Opened F.Field command (frame_of command parameters.now) row stand
+        lists.old lists.new field.old field.new s) }
+    ensures stopped { IfErr result (λ s.
+        (stop_number s.stop ≡ (if nat_le stand.budget stand.counts.commands then 8 else 9)) × (s.counts ≡ stand.counts)) }
     ensures same { OnErr result ((field.new ≡ field.old) × (lists.new ≡ lists.old)) }
 {
     if stand.is_spent() {

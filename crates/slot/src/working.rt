@@ -1,9 +1,12 @@
 // Working a sweep slot by slot.
-ghost use Rattle.std.specs.Prelude.{◌≡◌, ℕ, ◌+◌, List, [], ◌<◌, ◌≤◌, length, IfOk, IfErr, OnErr, OnOk, if◌then◌else◌, Some, None};
+ghost use Rattle.std.specs.Prelude.{◌≡◌, ℕ, ◌+◌, ◌<◌, ◌≤◌, if◌then◌else◌, List, [], length, Some, None, IfOk, OnErr, OnOk};
 ghost use Rattle.rows.specs.Filling.{rows_of, is_full, and_row};
-ghost use Rattle.slot.specs.Going.{GoesOn, setting, where_opened, where_split, where_read, where_left, where_closed, StandsAt, Shows, BothBehind, IsWithin, counts_in, counts_opened, counts_split, counts_left, counts_closed, counts_read, rows_opened, rows_split, rows_left, no_counts, handed_back, is_recorded, refused_by};
-ghost use Rattle.slot.specs.Rules.{beginning, in_silence, in_lone, in_clash, in_reading};
-ghost use Rattle.slot.specs.Sendings.{Sent};
+ghost use Rattle.slot.specs.Going.{setting, at_slot, at_silent, at_lone, at_clash, serial_heard, budget_in, counts_in};
+ghost use Rattle.slot.specs.Going.{where_opened, where_split, where_read, where_left, where_closed, Begins, Leads};
+ghost use Rattle.slot.specs.Going.{counts_opened, counts_split, counts_left, counts_closed, counts_read, no_counts};
+ghost use Rattle.slot.specs.Going.{rows_opened, rows_split, rows_left, BothBehind, IsWithin, handed_back, is_recorded};
+ghost use Rattle.slot.specs.Going.{refused_by};
+ghost use Rattle.slot.specs.Rules.{in_silence, in_clash, in_reading};
 
 use crate::asking::ask;
 use crate::counts::Counts;
@@ -27,10 +30,10 @@ const WANTED: [u8; 10] = [0x00, 0xc0, 0xef, 0x04, 0, 0, 0, 0, 0, 0];
 
 // Begins a sweep: empties the lists, and sends SELECT.
 pub fn open<F: Field>(field: &mut F, budget: u16, lists: &mut Lists<'_>) -> Result<Slot, Stopped>
-    ensures rule { (coins : List ℕ) → GoesOn F.faithful (setting coins budget lists.old) (λ p. p ≡ beginning (F.tags field.old)) (Shows (where_opened result) lists.new (F.tags field.new)) }
+    ensures rule { (coins : List ℕ) →
+        Begins F.Field (setting coins budget lists.old) (where_opened result) field.old field.new lists.new }
     ensures behind { BothBehind lists.old lists.new }
     ensures counts { counts_in (where_opened result) ≡ counts_opened no_counts result }
-    ensures sends { Sent F.hears 0 (counts_in (where_opened result)).commands field.old field.new }
     ensures within { OnOk result (IsWithin budget (where_opened result)) }
     ensures slots { rows_of lists.new.slots ≡ rows_opened Command.Select [] result }
     ensures serials { rows_of lists.new.serials ≡ [] }
@@ -55,11 +58,11 @@ impl ClashSlot {
         lists: &mut Lists<'_>,
     ) -> Result<Slot, Unsplit>
         ensures refusal { refused_by result ≡ (if is_recorded coins.now then None else Some 10) }
-        ensures rule { GoesOn F.faithful (setting coins.now self.stand.budget lists.old) (StandsAt in_clash self.stand lists.old (F.tags field.old)) (Shows (where_split result) lists.new (F.tags field.new)) }
+        ensures rule { Leads F.Field coins.now
+            (at_clash self) (where_split result) field.old field.new lists.old lists.new }
         ensures behind { BothBehind lists.old lists.new }
-        ensures counts { counts_in (where_split result) ≡ counts_split self.stand.counts result }
-        ensures sends { Sent F.hears self.stand.counts.commands (counts_in (where_split result)).commands field.old field.new }
-        ensures within { OnOk result (IsWithin self.stand.budget (where_split result)) }
+        ensures counts { counts_in (where_split result) ≡ counts_split (counts_in (at_clash self)) result }
+        ensures within { OnOk result (IsWithin (budget_in (at_clash self)) (where_split result)) }
         ensures slots { rows_of lists.new.slots ≡ rows_split (rows_of lists.old.slots) result }
         ensures serials { lists.new.serials ≡ lists.old.serials }
         ensures back { handed_back result self field.old field.new lists.old lists.new }
@@ -78,11 +81,11 @@ impl ClashSlot {
 impl SilentSlot {
     // Sends SCROLL for the next group that waits, or the closing REPEAT if none does.
     pub fn leave<F: Field>(self, field: &mut F, lists: &mut Lists<'_>) -> Result<Left, Stopped>
-        ensures rule { (coins : List ℕ) → GoesOn F.faithful (setting coins self.stand.budget lists.old) (StandsAt in_silence self.stand lists.old (F.tags field.old)) (Shows (where_left result) lists.new (F.tags field.new)) }
+        ensures rule { (coins : List ℕ) →
+            Leads F.Field coins (at_silent self) (where_left result) field.old field.new lists.old lists.new }
         ensures behind { BothBehind lists.old lists.new }
-        ensures counts { counts_in (where_left result) ≡ counts_left self.stand.counts result }
-        ensures sends { Sent F.hears self.stand.counts.commands (counts_in (where_left result)).commands field.old field.new }
-        ensures within { OnOk result (IsWithin self.stand.budget (where_left result)) }
+        ensures counts { counts_in (where_left result) ≡ counts_left (counts_in (at_silent self)) result }
+        ensures within { OnOk result (IsWithin (budget_in (at_silent self)) (where_left result)) }
         ensures slots { rows_of lists.new.slots ≡ rows_left (rows_of lists.old.slots) result }
         ensures serials { lists.new.serials ≡ lists.old.serials }
     {
@@ -97,14 +100,16 @@ impl SilentSlot {
 impl LoneSlot {
     // Lists the serial number, and sends READ until a reply is heard as lone. The slot can then be left.
     pub fn read<F: Field>(self, field: &mut F, lists: &mut Lists<'_>) -> Result<SilentSlot, Stopped>
-        ensures rule { (coins : List ℕ) → GoesOn F.faithful (setting coins self.stand.budget lists.old) (StandsAt (in_lone self.serial) self.stand lists.old (F.tags field.old)) (Shows (where_read result) lists.new (F.tags field.new)) }
+        ensures rule { (coins : List ℕ) →
+            Leads F.Field coins (at_lone self) (where_read result) field.old field.new lists.old lists.new }
         ensures behind { BothBehind lists.old lists.new }
-        ensures counts { counts_in (where_read result) ≡ counts_read self.stand.counts (counts_in (where_read result)).commands }
-        ensures sends { Sent F.hears self.stand.counts.commands (counts_in (where_read result)).commands field.old field.new }
-        ensures within { OnOk result (IsWithin self.stand.budget (where_read result)) }
-        ensures sent { IfOk result (λ s. self.stand.counts.commands < s.stand.counts.commands) }
+        ensures counts { counts_in (where_read result) ≡
+            counts_read (counts_in (at_lone self)) (counts_in (where_read result)).commands }
+        ensures within { OnOk result (IsWithin (budget_in (at_lone self)) (where_read result)) }
+        ensures sent { IfOk result (λ s. (counts_in (at_lone self)).commands < (counts_in (at_silent s)).commands) }
         ensures slots { lists.new.slots ≡ lists.old.slots }
-        ensures serials { rows_of lists.new.serials ≡ and_row (is_full lists.old.serials) (rows_of lists.old.serials) self.serial }
+        ensures serials { rows_of lists.new.serials ≡
+            and_row (is_full lists.old.serials) (rows_of lists.old.serials) (serial_heard self) }
     {
         let LoneSlot { stand, serial } = self;
         if lists.serials.push(serial).is_err() {
@@ -115,7 +120,7 @@ impl LoneSlot {
 
     // Ends the sweep here. Nothing is sent or listed.
     pub fn give_up(self) -> GivenUp
-        ensures { result ≡ record { serial = self.serial; counts = self.stand.counts } }
+        ensures { result ≡ record { serial = serial_heard self; counts = counts_in (at_lone self) } }
     {
         let LoneSlot { stand, serial } = self;
         GivenUp {
@@ -134,10 +139,10 @@ impl Stand {
         lists: &mut Lists<'_>,
     ) -> Result<Slot, Stopped>
         requires { 0 < length coins.now }
-        ensures rule { GoesOn F.faithful (setting coins.now self.budget lists.old) (StandsAt in_clash self lists.old (F.tags field.old)) (Shows (where_opened result) lists.new (F.tags field.new)) }
+        ensures rule { Leads F.Field coins.now
+            (at_slot in_clash self) (where_opened result) field.old field.new lists.old lists.new }
         ensures behind { BothBehind lists.old lists.new }
         ensures counts { counts_in (where_opened result) ≡ counts_opened self.counts result }
-        ensures sends { Sent F.hears self.counts.commands (counts_in (where_opened result)).commands field.old field.new }
         ensures within { OnOk result (IsWithin self.budget (where_opened result)) }
         ensures slots { rows_of lists.new.slots ≡ rows_opened Command.Query (rows_of lists.old.slots) result }
         ensures serials { lists.new.serials ≡ lists.old.serials }
@@ -157,10 +162,10 @@ impl Stand {
     // Goes on to the next group that waits.
     fn scroll<F: Field>(self, field: &mut F, lists: &mut Lists<'_>) -> Result<Slot, Stopped>
         requires { 0 < self.waiting }
-        ensures rule { (coins : List ℕ) → GoesOn F.faithful (setting coins self.budget lists.old) (StandsAt in_silence self lists.old (F.tags field.old)) (Shows (where_opened result) lists.new (F.tags field.new)) }
+        ensures rule { (coins : List ℕ) → Leads F.Field coins
+            (at_slot in_silence self) (where_opened result) field.old field.new lists.old lists.new }
         ensures behind { BothBehind lists.old lists.new }
         ensures counts { counts_in (where_opened result) ≡ counts_opened self.counts result }
-        ensures sends { Sent F.hears self.counts.commands (counts_in (where_opened result)).commands field.old field.new }
         ensures within { OnOk result (IsWithin self.budget (where_opened result)) }
         ensures slots { rows_of lists.new.slots ≡ rows_opened Command.Scroll (rows_of lists.old.slots) result }
         ensures serials { lists.new.serials ≡ lists.old.serials }
@@ -175,9 +180,9 @@ impl Stand {
     // Sends READ until a reply is heard as lone.
     fn read<F: Field>(self, field: &mut F, serial: &[u8]) -> Result<SilentSlot, Stopped>
         requires { length serial.now ≡ 8 }
-        ensures rule { (coins : List ℕ) (lists : Lists) → GoesOn F.faithful (setting coins self.budget lists) (StandsAt (in_reading serial.now) self lists (F.tags field.old)) (Shows (where_read result) lists (F.tags field.new)) }
+        ensures rule { (coins : List ℕ) (lists : Lists) → Leads F.Field coins
+            (at_slot (in_reading serial.now) self) (where_read result) field.old field.new lists lists }
         ensures counts { counts_in (where_read result) ≡ counts_read self.counts (counts_in (where_read result)).commands }
-        ensures sends { Sent F.hears self.counts.commands (counts_in (where_read result)).commands field.old field.new }
         ensures within { OnOk result (IsWithin self.budget (where_read result)) }
         ensures sent { IfOk result (λ s. self.counts.commands < s.stand.counts.commands) }
     {
@@ -197,9 +202,9 @@ impl Stand {
     // Sends the closing REPEAT, which opens no slot.
     fn close<F: Field>(self, field: &mut F) -> Result<Counts, Stopped>
         requires { self.waiting ≡ 0 }
-        ensures rule { (coins : List ℕ) (lists : Lists) → GoesOn F.faithful (setting coins self.budget lists) (StandsAt in_silence self lists (F.tags field.old)) (Shows (where_closed result) lists (F.tags field.new)) }
+        ensures rule { (coins : List ℕ) (lists : Lists) → Leads F.Field coins
+            (at_slot in_silence self) (where_closed result) field.old field.new lists lists }
         ensures counts { counts_in (where_closed result) ≡ counts_closed self.counts result }
-        ensures sends { Sent F.hears self.counts.commands (counts_in (where_closed result)).commands field.old field.new }
     {
         if self.is_spent() {
             return Err(self.stopped(Stop::Spent));

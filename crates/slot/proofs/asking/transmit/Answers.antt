@@ -1,11 +1,15 @@
-use Rattle.std.proofs.Common.{◌≡◌, ℕ, ◌≤◌, ◌-◌, List, length, take, drop, replicate, None, Ok, Err, Result, sym, ap, ◌∙◌, arith}
+use Rattle.std.proofs.Common.{◌≡◌, ℕ, ◌≤◌, ◌-◌, List, length, take, drop, replicate, None, Ok, Err, Result, true, sym, ap, ◌∙◌, subst, arith}
 use Rattle.std.proofs.lemmas.List.{take-append-le, length-append, length-replicate}
+use Rattle.std.specs.Prelude.{IfOk}
 use Rattle.std.specs.Result.{result_unwrap_or}
 use Rattle.protocol.specs.declared.refusal.Refusal.{Refusal}
 use Rattle.field.specs.declared.hearing.Hearing.{Hearing}
 use Rattle.field.specs.declared.hearing.Hearing.TheVariants.{Silence}
-use Rattle.field.specs.Airs.{Air, caught}
-use Rattle.field.specs.Sends.{refusal_in, left_in, padded}
+use Rattle.frame.specs.Openings.{opening}
+use Rattle.field.specs.Airs.{Air, MayHear, plainly, caught}
+use Rattle.field.specs.Sends.{refusal_in, left_in, padded, stepped_all, on_air}
+use Rattle.field.specs.declared.field.Field.{Ghosts as Kind}
+use Rattle.field.specs.Promises.{AfterSend}
 use Rattle.slot.specs.Commands.{serial_in}
 use Rattle.slot.proofs.asking.transmit.Goals as goal
 
@@ -26,3 +30,20 @@ pub returns-clause-serial : goal.returns-clause-serial
 returns-clause-serial g c =
     taken c.send-heard.result c.unwrap_or.result _ _ c.send-heard.new.buffer c.copy_from_slice.new.self c.send-heard.ensures.refusal c.unwrap_or.ensures c.send-heard.ensures.buffer
     c.copy_from_slice.ensures.after
+
+-- A send that is not refused is heard.
+sent_of : {F : Type 0} (kind : Kind F) (frame : List ℕ) (row : ℕ) (a b : F) (r : Result Hearing Refusal) (h : Hearing) → refusal_in r ≡ None
+    → h ≡ result_unwrap_or r Silence → kind.tags b ≡ stepped_all (opening frame) row (kind.tags a)
+    → IfOk r (λ x. MayHear (on_air (opening frame) row (kind.tags a)) x)
+    → IfOk r (λ x. kind.faithful a ≡ true → x ≡ plainly (on_air (opening frame) row (kind.tags a)))
+    → kind.faithful b ≡ kind.faithful a → kind.hears a frame row r b → AfterSend kind frame row h a b
+sent_of kind frame row a b (Ok x) h n e tags may plain still promise =
+    subst (λ (y : Hearing). AfterSend kind frame row y a b) (sym e)
+    (record { tags = tags; may_be = may; plain = plain; as_faithful = still; promise = promise })
+sent_of kind frame row a b (Err x) h n e tags may plain still promise = absurd (let z : ◌≡◌ {A = ℕ} 0 1 = cc in omega arith)
+
+pub returns-clause-sent : goal.returns-clause-sent
+returns-clause-sent g c =
+    sent_of g.F.Field c.args.bytes.now c.args.row c.args.field.now c.send-heard.new.self c.send-heard.result c.unwrap_or.result c.send-heard.ensures.refusal
+    c.unwrap_or.ensures c.send-heard.ensures.tags c.send-heard.ensures.hearing c.send-heard.ensures.faithful c.send-heard.ensures.as_faithful
+    c.send-heard.ensures.kind

@@ -1,4 +1,4 @@
-use Rattle.std.proofs.Common.{◌≡◌, Ok, Err, Result, ap, refl, sym, subst}
+use Rattle.std.proofs.Common.{◌≡◌, Ok, Err, Result, ap, sym, subst}
 use Rattle.std.proofs.lemmas.Bool.{true≢false}
 use Rattle.std.specs.Prelude.{IsErr, IsErrAnd}
 use Rattle.slot.specs.Countings.{stop_number}
@@ -6,10 +6,8 @@ use Rattle.slot.specs.declared.ending.Stopped.{Stopped}
 use Rattle.slot.specs.declared.kinds.Slot.{Slot}
 use Rattle.slot.specs.declared.kinds.Unsplit.{Unsplit}
 use Rattle.slot.specs.declared.kinds.Unsplit.TheVariants as unsplit
-use Rattle.slot.specs.Going.{setting, Where, over, where_split, Reaches, Shows}
-use Rattle.slot.specs.Rules.{Play}
+use Rattle.slot.specs.Going.{setting, Where, over, where_split, IsLed}
 use Rattle.slot.proofs.Moves.{reaches_self}
-use Rattle.slot.proofs.Sendings.{none_sent}
 use Rattle.slot.proofs.kinds.ClashSlot.split.Goals as goal
 
 -- A stop is handed on as it is.
@@ -19,13 +17,10 @@ handed (Err e) s a b = ap (λ (x : Unsplit). where_split (Err x)) (sym b)
 
 pub returns-then-is_empty-clause-rule : goal.returns-then-is_empty-clause-rule
 returns-then-is_empty-clause-rule g c p s =
-    (p, reaches_self (setting c.args.coins.now c.args.self.stand.budget c.args.lists.now) g.F.Field.faithful p, s)
+    (p, reaches_self g.F.Field (setting c.args.coins.now c.args.self.stand.budget c.args.lists.now) c.args.field.now p, s)
 
 pub returns-in_err-split-clause-rule : goal.returns-in_err-split-clause-rule
 returns-in_err-split-clause-rule g c p s =
-    subst (λ (w : Where). (q : Play) × Reaches g.F.Field.faithful (setting c.args.coins.now c.args.self.stand.budget c.args.lists.now) p q × Shows w c.split.new.lists (g.F.Field.tags c.split.new.field) q)
+    subst (λ (w : Where). IsLed g.F.Field (setting c.args.coins.now c.args.self.stand.budget c.args.lists.now) p w c.args.field.now c.split.new.field c.split.new.lists)
     (handed c.from_residual.result c.in_err-split.field-0.0 c.from_residual.ensures.0 c.from_residual.ensures.1)
     (c.in_err-split.ensures.rule p s)
-
-pub returns-then-is_empty-clause-sends : goal.returns-then-is_empty-clause-sends
-returns-then-is_empty-clause-sends g c = none_sent g.F.Field.hears _ _ _ _ refl refl

@@ -1,8 +1,7 @@
 use Rattle.std.proofs.Common.{◌≡◌, ℕ, List}
 use Rattle.slot.specs.declared.lists.Lists.{Lists}
-use Rattle.slot.specs.Going.{GoesOn, setting, StandsAt, counts_read}
+use Rattle.slot.specs.Going.{at_slot, Leads, counts_read}
 use Rattle.slot.specs.Rules.{in_reading}
-use Rattle.slot.specs.Sendings.{Sent}
 use Rattle.slot.proofs.kinds.Stand.read.Given as goal
 
 abbrev pub invariant-loop-sent : goal.invariant-loop-sent
@@ -12,6 +11,5 @@ invariant-loop-sent g l = record {
   next : l.stand.next ≡ l.fn.self.next;
   counts : l.stand.counts ≡ counts_read l.fn.self.counts l.stand.counts.commands;
   commands : l.stand.counts.commands ≡ l.sent;
-  sends : Sent g.F.Field.hears l.fn.self.counts.commands l.stand.counts.commands l.initial.field l.field;
-  rule : (coins : List ℕ) (lists : Lists) → GoesOn g.F.Field.faithful (setting coins l.fn.self.budget lists) (StandsAt (in_reading l.serial) l.fn.self lists (g.F.Field.tags l.initial.field)) (StandsAt (in_reading l.serial) l.stand lists (g.F.Field.tags l.field));
+  rule : (coins : List ℕ) (lists : Lists) → Leads g.F.Field coins (at_slot (in_reading l.serial) l.fn.self) (at_slot (in_reading l.serial) l.stand) l.initial.field l.field lists lists;
 }

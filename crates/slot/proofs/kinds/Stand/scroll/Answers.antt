@@ -4,22 +4,15 @@ use Rattle.protocol.specs.declared.command.Command.TheVariants.{Scroll}
 use Rattle.slot.specs.Commands.{scroll}
 use Rattle.slot.specs.Going.{setting}
 use Rattle.slot.specs.Rules.{Setting, opening_slot, opens}
-use Rattle.slot.proofs.Moves.{slot_opened, silent_deed, still}
-use Rattle.slot.proofs.Sendings.{opening_sent}
+use Rattle.slot.proofs.Moves.{slot_opened, silent_deed}
 use Rattle.slot.proofs.kinds.Stand.scroll.Goals as goal
 
 pub returns-clause-rule : goal.returns-clause-rule
 unfolding scroll
 returns-clause-rule g c coins p s =
     let set : Setting = setting coins c.args.self.budget c.args.lists.now in
-    slot_opened g.F.Field.faithful set p Scroll scroll 0 _ c.args.lists.now c.open_slot.new.lists (g.F.Field.tags c.args.field.now) (g.F.Field.tags c.open_slot.new.field)
+    slot_opened g.F.Field set p Scroll scroll 0 _ c.args.lists.now c.open_slot.new.lists c.args.field.now c.open_slot.new.field
     refl refl s.commands s.slots s.serials s.tags
     (silent_deed set p false s.phase (ne_eqb p.waiting 0 (λ e. omega (arith, c.requires, s.waiting)))
     ∙ ap₂ (λ (w n : ℕ). opening_slot set p (opens Scroll scroll 0 (w - 1) n)) s.waiting s.next)
-    c.open_slot.result c.open_slot.ensures.done c.open_slot.ensures.opened c.open_slot.ensures.stopped
-    (still g.F.Field.tags c.args.field.now c.open_slot.new.field c.args.lists.now c.open_slot.new.lists c.open_slot.result c.open_slot.ensures.same)
-
-pub returns-clause-sends : goal.returns-clause-sends
-returns-clause-sends g c =
-    opening_sent g.F.Field.hears g.F.Field.faithful _ _ _ _ _ _ _ _ c.args.field.now c.open_slot.new.field _ c.open_slot.result c.open_slot.ensures.opened
-    c.open_slot.ensures.stopped c.open_slot.ensures.kind c.open_slot.ensures.same
+    c.open_slot.result c.open_slot.ensures.done c.open_slot.ensures.opened c.open_slot.ensures.stopped c.open_slot.ensures.same

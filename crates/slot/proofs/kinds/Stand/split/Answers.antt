@@ -6,8 +6,7 @@ use Rattle.slot.specs.Going.{setting}
 use Rattle.slot.specs.declared.ending.Stopped.{Stopped}
 use Rattle.slot.specs.Countings.{stop_number}
 use Rattle.slot.specs.Rules.{Setting, Play, in_clash, deed_in, next_deed, opening_slot, opens, stops, coins_at, place_behind}
-use Rattle.slot.proofs.Moves.{slot_opened, stopped, still}
-use Rattle.slot.proofs.Sendings.{none_sent, opening_sent}
+use Rattle.slot.proofs.Moves.{slot_opened, stopped}
 use Rattle.slot.proofs.kinds.Stand.split.Goals as goal
 
 -- What comes after a clash, by how many groups wait.
@@ -20,26 +19,16 @@ clash_deed set p b e w =
 pub returns-then-self-eq255-clause-rule : goal.returns-then-self-eq255-clause-rule
 returns-then-self-eq255-clause-rule g c p s =
     let set : Setting = setting c.args.coins.now c.args.self.budget c.args.lists.now in
-    stopped g.F.Field.faithful set p c.args.lists.now (g.F.Field.tags c.args.field.now) 7 c.stopped.result
-    (clash_deed set p true s.phase (eq-eqb p.waiting 255 (s.waiting ∙ c.if-self-eq255.true)))
+    stopped g.F.Field set p c.args.lists.now c.args.field.now c.args.field.now 7 c.stopped.result
+    (clash_deed set p true s.phase (eq-eqb p.waiting 255 (s.waiting ∙ c.if-self-eq255.true))) refl
     (ap (λ (x : Stopped). stop_number x.stop) c.stopped.ensures) (s.commands ∙ ap (λ (x : Stopped). x.counts.commands) (sym c.stopped.ensures)) s.slots s.serials s.tags
 
 pub returns-clause-rule : goal.returns-clause-rule
 unfolding query
 returns-clause-rule g c p s =
     let set : Setting = setting c.args.coins.now c.args.self.budget c.args.lists.now in
-    slot_opened g.F.Field.faithful set p Query query (coins_at c.args.coins.now c.args.self.next) _ c.args.lists.now c.open_slot.new.lists (g.F.Field.tags c.args.field.now) (g.F.Field.tags c.open_slot.new.field)
+    slot_opened g.F.Field set p Query query (coins_at c.args.coins.now c.args.self.next) _ c.args.lists.now c.open_slot.new.lists c.args.field.now c.open_slot.new.field
     refl refl s.commands s.slots s.serials s.tags
     (clash_deed set p false s.phase (ne_eqb p.waiting 255 (λ e. c.if-self-eq255.false (sym s.waiting ∙ e)))
     ∙ ap₂ (λ (w n : ℕ). opening_slot set p (opens Query query (coins_at set.coins n) (w + 1) (place_behind set.coins n))) s.waiting s.next)
-    c.open_slot.result c.open_slot.ensures.done c.open_slot.ensures.opened c.open_slot.ensures.stopped
-    (still g.F.Field.tags c.args.field.now c.open_slot.new.field c.args.lists.now c.open_slot.new.lists c.open_slot.result c.open_slot.ensures.same)
-
-pub returns-then-self-eq255-clause-sends : goal.returns-then-self-eq255-clause-sends
-returns-then-self-eq255-clause-sends g c =
-    none_sent g.F.Field.hears _ _ _ _ (ap (λ (x : Stopped). x.counts.commands) c.stopped.ensures) refl
-
-pub returns-clause-sends : goal.returns-clause-sends
-returns-clause-sends g c =
-    opening_sent g.F.Field.hears g.F.Field.faithful _ _ _ _ _ _ _ _ c.args.field.now c.open_slot.new.field _ c.open_slot.result c.open_slot.ensures.opened
-    c.open_slot.ensures.stopped c.open_slot.ensures.kind c.open_slot.ensures.same
+    c.open_slot.result c.open_slot.ensures.done c.open_slot.ensures.opened c.open_slot.ensures.stopped c.open_slot.ensures.same
