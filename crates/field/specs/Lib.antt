@@ -1,4 +1,5 @@
 pub mod Airs
 pub mod Declining
 pub mod Listings
+pub mod Promises
 pub mod Sends

@@ -2,7 +2,7 @@
 use Rattle.std.proofs.Common.{◌≡◌, ◌⊎◌, inl, inr, ℕ, zero, suc, ◌+◌, ◌-◌, eqb, Bool, true, false, cond, not, ◌||◌, List, [], ◌∷◌, ◌++◌, length, Ok, Err, Result, sym, refl, ap, ap₂, ◌∙◌, subst, arith}
 use Rattle.std.proofs.lemmas.Bool.{true≢false}
 use Rattle.std.proofs.lemmas.List.{length-append}
-use Rattle.std.specs.Prelude.{is_ok, IfOk, IfErr, OnErr, nat_le}
+use Rattle.std.specs.Prelude.{nat_le}
 use Rattle.protocol.specs.declared.command.Command.{Command}
 use Rattle.protocol.specs.declared.command.Command.TheVariants.{Scroll}
 use Rattle.frame.specs.Openings.{opening}
@@ -22,7 +22,7 @@ use Rattle.slot.specs.declared.kinds.Slot.{Slot}
 use Rattle.slot.specs.declared.lists.Lists.{Lists}
 use Rattle.slot.specs.Commands.{scroll, read}
 use Rattle.slot.specs.Countings.{sent_one, stop_number, counted}
-use Rattle.slot.specs.Slots.{standing, heard_in, Opened}
+use Rattle.slot.specs.Slots.{standing, heard_in, Opened, MayOpen}
 use Rattle.slot.specs.Rules.{Setting, Play, in_reading, read_by, in_silence, deed_in, commanding, ended, opened_by, Deed, stops, opens, lists, reads, closes, rests, opening_slot, next_deed, air_of, done, went, may_hear, plain, played, Heard, replayed}
 use Rattle.slot.specs.Runs.{AfterDeed, GoesAlong, Reaches}
 use Rattle.slot.specs.Going.{setting, at_slot, over, where_opened, StandsAt, IsLed, Where}
@@ -145,9 +145,11 @@ module _ {F : Type 0} (kind : Kind F) where
   pub stopped : (set : Setting) (p : Play) (held : Lists) (a b : F) (n : ℕ) (s : Stopped) → next_deed set p ≡ stops n → b ≡ a
       → stop_number s.stop ≡ n → p.commands ≡ s.counts.commands → p.slots ≡ rows_of held.slots → p.serials ≡ rows_of held.serials → p.tags ≡ kind.tags a
       → IsLed kind set p (over (stop_number s.stop) s.counts) a b held
-  stopped set p held a b n s e same en ec es el et =
-      (done (stops n) Silence p, reaches_stop kind set p n a b e same,
-        record { phase = ap ended (sym en); commands = ec; slots = es; serials = el; tags = et ∙ ap kind.tags (sym same) })
+  stopped set p held a b n s e same en ec es el et = (
+    done (stops n) Silence p,
+    reaches_stop kind set p n a b e same,
+    record { phase = ap ended (sym en); commands = ec; slots = es; serials = el; tags = et ∙ ap kind.tags (sym same) },
+  )
 
   -- What opening a slot comes to, whatever comes of it.
   module _ (set : Setting) (p : Play) (command : Command) (frame : List ℕ) (row : ℕ) (from : Stand) (before after : Lists) (a b : F) where
@@ -179,25 +181,21 @@ module _ {F : Type 0} (kind : Kind F) where
         },
       )
 
-      pub slot_opened : (r : Result Slot Stopped)
-          → is_ok r ≡ not (nat_le from.budget from.counts.commands || is_full before.slots)
-          → IfOk r (λ s. Opened kind command frame row from before after a b s)
-          → IfErr r (λ s. (stop_number s.stop ≡ cond (nat_le from.budget from.counts.commands) 8 9) × (s.counts ≡ from.counts))
-          → OnErr r ((b ≡ a) × (after ≡ before)) → IsLed kind set p (where_opened r) a b after
-      slot_opened (Ok s) free o no_stop no_same =
-          let tests = neither (nat_le from.budget from.counts.commands) (is_full before.slots) free in
-          opened_lem s (next ∙ deed_by (opens command frame row from.waiting from.next) false false eb ec er es tests.0 tests.1) o
-      slot_opened (Err s) caught no_slot stop same =
-          let commands = ec ∙ ap (λ (c : Counts). c.commands) (sym stop.1) in
-          let slots = es ∙ ap (λ (l : Lists). rows_of l.slots) (sym same.1) in
-          let serials = el ∙ ap (λ (l : Lists). rows_of l.serials) (sym same.1) in
-          elim (either (nat_le from.budget from.counts.commands) (is_full before.slots) caught) [
+      pub slot_opened : (r : Result Slot Stopped) → MayOpen kind command frame row from before after a b r → IsLed kind set p (where_opened r) a b after
+      slot_opened (Ok s) o =
+          let tests = neither (nat_le from.budget from.counts.commands) (is_full before.slots) o.opens in
+          opened_lem s (next ∙ deed_by (opens command frame row from.waiting from.next) false false eb ec er es tests.0 tests.1) o.opened
+      slot_opened (Err s) o =
+          let commands = ec ∙ ap (λ (c : Counts). c.commands) (sym o.counts) in
+          let slots = es ∙ ap (λ (l : Lists). rows_of l.slots) (sym o.same.1) in
+          let serials = el ∙ ap (λ (l : Lists). rows_of l.serials) (sym o.same.1) in
+          elim (either (nat_le from.budget from.counts.commands) (is_full before.slots) o.opens) [
             | inl spent ↦ stopped set p after a b 8 s
-                (next ∙ deed_by (opens command frame row from.waiting from.next) true (is_full before.slots) eb ec er es spent refl) same.0
-                (stop.0 ∙ ap (λ (x : Bool). cond x 8 9) spent) commands slots serials et
+                (next ∙ deed_by (opens command frame row from.waiting from.next) true (is_full before.slots) eb ec er es spent refl) o.same.0
+                (o.stop ∙ ap (λ (x : Bool). cond x 8 9) spent) commands slots serials et
             | inr full ↦ stopped set p after a b 9 s
-                (next ∙ deed_by (opens command frame row from.waiting from.next) false true eb ec er es full.0 full.1) same.0
-                (stop.0 ∙ ap (λ (x : Bool). cond x 8 9) full.0) commands slots serials et
+                (next ∙ deed_by (opens command frame row from.waiting from.next) false true eb ec er es full.0 full.1) o.same.0
+                (o.stop ∙ ap (λ (x : Bool). cond x 8 9) full.0) commands slots serials et
           ]
 
   -- One READ, however it is heard.

@@ -1,19 +1,20 @@
 -- What slots, answers and stops say, by numbers and in the words of the rule. Assumes nothing.
-use Rattle.std.specs.Prelude.{◌≡◌, ℕ, List, [], ◌∷◌, ◌++◌}
+use Rattle.std.specs.Prelude.{◌≡◌, ℕ, cond, not, ◌||◌, List, [], ◌∷◌, ◌++◌, Result, is_ok, IfOk, IfErr, OnErr, nat_le}
 use Rattle.protocol.specs.declared.command.Command.{Command}
 use Rattle.frame.specs.Openings.{opening}
-use Rattle.rows.specs.Filling.{rows_of, Behind}
+use Rattle.rows.specs.Filling.{rows_of, is_full, Behind}
 use Rattle.field.specs.declared.hearing.Hearing.{Hearing}
 use Rattle.field.specs.declared.hearing.Hearing.TheVariants as hearing
 use Rattle.field.specs.declared.field.Field.{Ghosts as Kind}
 use Rattle.field.specs.Promises.{AfterSend}
 use Rattle.field.specs.Sends.{on_air}
 use Rattle.slot.specs.declared.counts.Counts.{Counts}
+use Rattle.slot.specs.declared.ending.Stopped.{Stopped}
 use Rattle.slot.specs.declared.kinds.Stand.{Stand}
 use Rattle.slot.specs.declared.kinds.Slot.{Slot}
 use Rattle.slot.specs.declared.kinds.Slot.TheVariants as slot
 use Rattle.slot.specs.declared.lists.Lists.{Lists}
-use Rattle.slot.specs.Countings.{counted}
+use Rattle.slot.specs.Countings.{stop_number, counted}
 use Rattle.slot.specs.Rules.{Phase, in_silence, in_lone, in_clash, opened_by}
 
 -- The hearing that a slot opened with.
@@ -50,3 +51,12 @@ pub record Opened {F : Type 0} (kind : Kind F) (command : Command) (frame : List
   pub slots : rows_of after.slots ≡ rows_of before.slots ++ record { command = command; hearing = heard_in opened; waiting = from.waiting } ∷ []
   pub behind : Behind before.slots after.slots
   pub serials : after.serials ≡ before.serials
+
+-- What comes of a command that is to open a slot. With the budget spent, or else with the list of slots full, the sweep
+-- stops, and nothing has changed.
+pub record MayOpen {F : Type 0} (kind : Kind F) (command : Command) (frame : List ℕ) (row : ℕ) (from : Stand) (before after : Lists) (field field_after : F) (answer : Result Slot Stopped) : Type 0 where
+  pub opens : is_ok answer ≡ not (nat_le from.budget from.counts.commands || is_full before.slots)
+  pub opened : IfOk answer (λ s. Opened kind command frame row from before after field field_after s)
+  pub stop : IfErr answer (λ s. stop_number s.stop ≡ cond (nat_le from.budget from.counts.commands) 8 9)
+  pub counts : IfErr answer (λ s. s.counts ≡ from.counts)
+  pub same : OnErr answer ((field_after ≡ field) × (after ≡ before))

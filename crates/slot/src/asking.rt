@@ -1,10 +1,10 @@
 // Sending one command, made from its code and parameters.
-ghost use Rattle.std.specs.Prelude.{◌≡◌, ◌+◌, ◌≤◌, length, take};
+ghost use Rattle.std.specs.Prelude.{◌≡◌, ◌+◌, ◌≤◌, [], length, take};
 ghost use Rattle.frame.specs.Openings.{opening};
 ghost use Rattle.protocol.specs.Commands.{length_of};
 ghost use Rattle.field.specs.Promises.{AfterSend};
 ghost use Rattle.field.specs.Sends.{on_air};
-ghost use Rattle.slot.specs.Commands.{frame_of, serial_in};
+ghost use Rattle.slot.specs.Commands.{frame_of, target, serial_in};
 
 use crate::row::Serial;
 use field::field::{Field, ROOM};
@@ -33,6 +33,23 @@ pub(crate) fn ask<F: Field>(field: &mut F, command: Command, parameters: &[u8], 
     let mut frame = [0; LONGEST];
     let length = put_frame(command, parameters, &mut frame);
     transmit(field, &frame[..length], row)
+}
+
+// Sends READ for the bytes from address 00 on of the tag with a serial number.
+pub(crate) fn read<F: Field>(field: &mut F, serial: &[u8]) -> Hearing
+    requires { length serial.now ≡ 8 }
+    ensures { AfterSend F.Field (frame_of Command.Read (target serial.now)) 0 result field.old field.new }
+{
+    let mut target = [0; SERIAL + 1];
+    target[..SERIAL].copy_from_slice(serial);
+    ask(field, Command::Read, &target, 0).hearing
+}
+
+// Sends the closing REPEAT.
+pub(crate) fn repeat<F: Field>(field: &mut F) -> Hearing
+    ensures { AfterSend F.Field (frame_of Command.Repeat []) 0 result field.old field.new }
+{
+    ask(field, Command::Repeat, &[], 0).hearing
 }
 
 // Makes the frame of a command with parameters that fit it, and tells its length.

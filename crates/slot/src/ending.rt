@@ -71,7 +71,8 @@ pub struct Report {
 }
 
 impl From<Stopped> for Report {
-    ghost from_gives = { λ stopped report. report ≡ record { end = end.Stopped stopped.stop; counts = stopped.counts } };
+    ghost from_gives = { λ stopped report.
+        report ≡ record { end = end.Stopped stopped.stop; counts = stopped.counts } };
 
     fn from(stopped: Stopped) -> Report {
         Report {

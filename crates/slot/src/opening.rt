@@ -1,10 +1,10 @@
 // Sending a command that opens a slot.
-ghost use Rattle.std.specs.Prelude.{◌≡◌, ◌+◌, ◌<◌, false, not, ◌||◌, length, is_ok, IfOk, IfErr, OnErr, if◌then◌else◌, nat_le};
+ghost use Rattle.std.specs.Prelude.{◌≡◌, ℕ, ◌+◌, ◌%◌, ◌<◌, false, [], length, nat_le};
 ghost use Rattle.protocol.specs.Commands.{length_of};
-ghost use Rattle.rows.specs.Filling.{is_full};
-ghost use Rattle.slot.specs.Commands.{frame_of};
-ghost use Rattle.slot.specs.Countings.{stop_number, counted};
-ghost use Rattle.slot.specs.Slots.{heard_in, phase_of, phase_with, stand_of, standing, Opened};
+ghost use Rattle.slot.specs.Commands.{frame_of, wanted};
+ghost use Rattle.slot.specs.Countings.{counted};
+ghost use Rattle.slot.specs.Rules.{coins_at};
+ghost use Rattle.slot.specs.Slots.{heard_in, phase_of, phase_with, stand_of, standing, MayOpen};
 
 use crate::asking::{Answer, ask};
 use crate::ending::{Stop, Stopped};
@@ -37,7 +37,8 @@ impl Stand {
         requires { self.counts.commands < 65535 }
         ensures hearing { heard_in result ≡ answer.hearing }
         ensures phase { phase_of result ≡ phase_with answer.hearing answer.serial }
-        ensures stand { stand_of result ≡ standing self.budget self.waiting self.next (counted answer.hearing self.counts) }
+        ensures stand { stand_of result ≡
+            standing self.budget self.waiting self.next (counted answer.hearing self.counts) }
     {
         let Answer { hearing, serial } = answer;
         let stand = Stand {
@@ -52,8 +53,56 @@ impl Stand {
     }
 }
 
+// What SELECT asks for: address 00, mask C0, and the word EF 04 with six 00.
+const WANTED: [u8; 10] = [0x00, 0xc0, 0xef, 0x04, 0, 0, 0, 0, 0, 0];
+
+// Sends SELECT, and opens its slot.
+pub(crate) fn select<F: Field>(
+    field: &mut F,
+    stand: Stand,
+    lists: &mut Lists<'_>,
+) -> Result<Slot, Stopped>
+    ensures { MayOpen F.Field Command.Select (frame_of Command.Select wanted) 0 stand
+        lists.old lists.new field.old field.new result }
+{
+    open_slot(field, Command::Select, &WANTED, 0, stand, lists)
+}
+
+// Sends QUERY with a row of coins, and opens its slot.
+pub(crate) fn query<F: Field>(
+    field: &mut F,
+    row: u64,
+    stand: Stand,
+    lists: &mut Lists<'_>,
+) -> Result<Slot, Stopped>
+    ensures { MayOpen F.Field Command.Query (frame_of Command.Query []) row stand
+        lists.old lists.new field.old field.new result }
+{
+    open_slot(field, Command::Query, &[], row, stand, lists)
+}
+
+// Sends SCROLL, and opens its slot.
+pub(crate) fn scroll<F: Field>(
+    field: &mut F,
+    stand: Stand,
+    lists: &mut Lists<'_>,
+) -> Result<Slot, Stopped>
+    ensures { MayOpen F.Field Command.Scroll (frame_of Command.Scroll []) 0 stand
+        lists.old lists.new field.old field.new result }
+{
+    open_slot(field, Command::Scroll, &[], 0, stand, lists)
+}
+
+// The row of coins at a place, where behind the last comes the first.
+pub(crate) fn coins_at(coins: &[u64], place: usize) -> u64
+    requires { 0 < length coins.now }
+    ensures { result ≡ coins_at coins.now place }
+{
+    coins[place % coins.len()]
+}
+
 // Sends a command with parameters that fit it, unless the budget is spent or the list of slots full, and opens its slot.
-pub(crate) fn open_slot<F: Field>(
+fn open_slot<F: Field>(
     field: &mut F,
     command: Command,
     parameters: &[u8],
@@ -62,12 +111,8 @@ pub(crate) fn open_slot<F: Field>(
     lists: &mut Lists<'_>,
 ) -> Result<Slot, Stopped>
     requires { length parameters.now + 3 ≡ length_of command }
-    ensures done { is_ok result ≡ not (nat_le stand.budget stand.counts.commands || is_full lists.old.slots) }
-    ensures opened { IfOk result (λ s. Opened F.Field command (frame_of command parameters.now) row stand
-        lists.old lists.new field.old field.new s) }
-    ensures stopped { IfErr result (λ s.
-        (stop_number s.stop ≡ (if nat_le stand.budget stand.counts.commands then 8 else 9)) × (s.counts ≡ stand.counts)) }
-    ensures same { OnErr result ((field.new ≡ field.old) × (lists.new ≡ lists.old)) }
+    ensures { MayOpen F.Field command (frame_of command parameters.now) row stand
+        lists.old lists.new field.old field.new result }
 {
     if stand.is_spent() {
         return Err(stand.stopped(Stop::Spent));

@@ -1,5 +1,6 @@
 // Working a sweep slot by slot.
-ghost use Rattle.std.specs.Prelude.{◌≡◌, ℕ, ◌+◌, ◌<◌, ◌≤◌, if◌then◌else◌, List, [], length, Some, None, IfOk, OnErr, OnOk};
+ghost use Rattle.std.specs.Prelude.{◌≡◌, ℕ, ◌<◌, if◌then◌else◌, List, [], length, Some, None, IfOk, OnOk};
+ghost use Rattle.protocol.specs.declared.command.Command.TheVariants as command;
 ghost use Rattle.rows.specs.Filling.{rows_of, is_full, and_row};
 ghost use Rattle.slot.specs.Going.{setting, at_slot, at_silent, at_lone, at_clash, serial_heard, budget_in, counts_in};
 ghost use Rattle.slot.specs.Going.{where_opened, where_split, where_read, where_left, where_closed, Begins, Leads};
@@ -8,25 +9,20 @@ ghost use Rattle.slot.specs.Going.{rows_opened, rows_split, rows_left, BothBehin
 ghost use Rattle.slot.specs.Going.{refused_by};
 ghost use Rattle.slot.specs.Rules.{in_silence, in_clash, in_reading};
 
-use crate::asking::ask;
+use crate::asking::{read, repeat};
 use crate::counts::Counts;
 use crate::ending::{Stop, Stopped};
 use crate::kinds::{ClashSlot, GivenUp, Left, LoneSlot, SilentSlot, Slot, Stand, Unsplit};
 use crate::lists::Lists;
-use crate::opening::open_slot;
+use crate::opening::{coins_at, query, scroll, select};
 use crate::row::Serial;
 use field::declined::Declined;
 use field::field::Field;
 use field::hearing::Hearing;
-use protocol::command::Command;
 use protocol::refusal::Refusal;
-use record::SERIAL;
 
 // How many recorded rows of coins there can be.
 pub const MOST_ROWS: usize = 64;
-
-// What SELECT asks for: address 00, mask C0, and the word EF 04 with six 00.
-const WANTED: [u8; 10] = [0x00, 0xc0, 0xef, 0x04, 0, 0, 0, 0, 0, 0];
 
 // Begins a sweep: empties the lists, and sends SELECT.
 pub fn open<F: Field>(field: &mut F, budget: u16, lists: &mut Lists<'_>) -> Result<Slot, Stopped>
@@ -35,7 +31,7 @@ pub fn open<F: Field>(field: &mut F, budget: u16, lists: &mut Lists<'_>) -> Resu
     ensures behind { BothBehind lists.old lists.new }
     ensures counts { counts_in (where_opened result) ≡ counts_opened no_counts result }
     ensures within { OnOk result (IsWithin budget (where_opened result)) }
-    ensures slots { rows_of lists.new.slots ≡ rows_opened Command.Select [] result }
+    ensures slots { rows_of lists.new.slots ≡ rows_opened command.Select [] result }
     ensures serials { rows_of lists.new.serials ≡ [] }
 {
     lists.slots.clear();
@@ -46,7 +42,7 @@ pub fn open<F: Field>(field: &mut F, budget: u16, lists: &mut Lists<'_>) -> Resu
         next: 0,
         counts: Counts::new(),
     };
-    open_slot(field, Command::Select, &WANTED, 0, stand, lists)
+    select(field, stand, lists)
 }
 
 impl ClashSlot {
@@ -144,19 +140,19 @@ impl Stand {
         ensures behind { BothBehind lists.old lists.new }
         ensures counts { counts_in (where_opened result) ≡ counts_opened self.counts result }
         ensures within { OnOk result (IsWithin self.budget (where_opened result)) }
-        ensures slots { rows_of lists.new.slots ≡ rows_opened Command.Query (rows_of lists.old.slots) result }
+        ensures slots { rows_of lists.new.slots ≡ rows_opened command.Query (rows_of lists.old.slots) result }
         ensures serials { lists.new.serials ≡ lists.old.serials }
     {
         if self.waiting == u8::MAX {
             return Err(self.stopped(Stop::Deep));
         }
-        let place = self.next % coins.len();
+        let row = coins_at(coins, self.next);
         let stand = Stand {
             waiting: self.waiting + 1,
-            next: place + 1,
+            next: self.next % coins.len() + 1,
             ..self
         };
-        open_slot(field, Command::Query, &[], coins[place], stand, lists)
+        query(field, row, stand, lists)
     }
 
     // Goes on to the next group that waits.
@@ -167,14 +163,14 @@ impl Stand {
         ensures behind { BothBehind lists.old lists.new }
         ensures counts { counts_in (where_opened result) ≡ counts_opened self.counts result }
         ensures within { OnOk result (IsWithin self.budget (where_opened result)) }
-        ensures slots { rows_of lists.new.slots ≡ rows_opened Command.Scroll (rows_of lists.old.slots) result }
+        ensures slots { rows_of lists.new.slots ≡ rows_opened command.Scroll (rows_of lists.old.slots) result }
         ensures serials { lists.new.serials ≡ lists.old.serials }
     {
         let stand = Stand {
             waiting: self.waiting - 1,
             ..self
         };
-        open_slot(field, Command::Scroll, &[], 0, stand, lists)
+        scroll(field, stand, lists)
     }
 
     // Sends READ until a reply is heard as lone.
@@ -182,17 +178,16 @@ impl Stand {
         requires { length serial.now ≡ 8 }
         ensures rule { (coins : List ℕ) (lists : Lists) → Leads F.Field coins
             (at_slot (in_reading serial.now) self) (where_read result) field.old field.new lists lists }
-        ensures counts { counts_in (where_read result) ≡ counts_read self.counts (counts_in (where_read result)).commands }
+        ensures counts { counts_in (where_read result) ≡
+            counts_read self.counts (counts_in (where_read result)).commands }
         ensures within { OnOk result (IsWithin self.budget (where_read result)) }
         ensures sent { IfOk result (λ s. self.counts.commands < s.stand.counts.commands) }
     {
-        let mut target = [0; SERIAL + 1];
-        target[..SERIAL].copy_from_slice(serial);
         let mut stand = self;
         for sent in self.counts.commands..self.budget {
-            let answer = ask(field, Command::Read, &target, 0);
+            let heard = read(field, serial);
             stand.counts.commands = sent + 1;
-            if answer.hearing == Hearing::Lone {
+            if heard == Hearing::Lone {
                 return Ok(SilentSlot { stand });
             }
         }
@@ -209,7 +204,7 @@ impl Stand {
         if self.is_spent() {
             return Err(self.stopped(Stop::Spent));
         }
-        let _ = ask(field, Command::Repeat, &[], 0);
+        let _ = repeat(field);
         Ok(self.counts.with_command())
     }
 }

@@ -12,7 +12,6 @@ pub returns-clause-rule : goal.returns-clause-rule
 unfolding select
 returns-clause-rule g c coins =
     let set : Setting = setting coins c.args.budget c.args.lists.now in
-    slot_opened g.F.Field set (beginning (g.F.Field.tags c.args.field.now)) Select select 0 _ _ c.open_slot.new.lists c.args.field.now c.open_slot.new.field refl
+    slot_opened g.F.Field set (beginning (g.F.Field.tags c.args.field.now)) Select select 0 _ _ c.select.new.lists c.args.field.now c.select.new.field refl
     (ap (λ (m : MutBor (List SlotRow)). length m.now) (sym c.clear.ensures.storage)) (ap (λ (k : Counts). k.commands) (sym c.new.ensures))
-    (sym c.clear.ensures.rows) (sym c.clear-2.ensures.rows) refl refl c.open_slot.result
-    c.open_slot.ensures.done c.open_slot.ensures.opened c.open_slot.ensures.stopped c.open_slot.ensures.same
+    (sym c.clear.ensures.rows) (sym c.clear-2.ensures.rows) refl refl c.select.result c.select.ensures

@@ -24,16 +24,16 @@ pub returns-clause-rule : goal.returns-clause-rule
 unfolding again
 returns-clause-rule g c coins lists p s =
     let set : Setting = setting coins c.args.self.budget lists in (
-      done closes c.ask.result.hearing p,
-      reaches_sent g.F.Field set p closes again 0 c.ask.result.hearing c.args.field.now c.ask.new.field
+      done closes c.repeat.result p,
+      reaches_sent g.F.Field set p closes again 0 c.repeat.result c.args.field.now c.repeat.new.field
           (silent_deed set p true s.phase (eq-eqb p.waiting 0 (s.waiting ∙ c.requires))
           ∙ budget_deed set p closes false (ap (nat_le c.args.self.budget) s.commands ∙ sym c.if-is_spent.ensures.test))
-          s.tags refl (λ x. x) c.ask.ensures.sent,
+          s.tags refl (λ x. x) c.repeat.ensures,
       record {
         phase = refl;
         commands = ap (λ (n : ℕ). n + 1) s.commands ∙ ap (λ (x : Counts). x.commands) (sym c.with_command.ensures);
         slots = s.slots;
         serials = s.serials;
-        tags = ap (stepped_all (opening again) 0) s.tags ∙ sym c.ask.ensures.sent.tags;
+        tags = ap (stepped_all (opening again) 0) s.tags ∙ sym c.repeat.ensures.tags;
       },
     )

@@ -1,4 +1,4 @@
-use Rattle.std.proofs.Common.{rules, ◌≡◌, ℕ, ◌+◌, ◌<◌, ◌≤◌, true, false, List, [], ◌∷◌, ◌++◌, sym, refl, ap, ◌∙◌, subst, arith}
+use Rattle.std.proofs.Common.{rules, ◌≡◌, ℕ, ◌+◌, ◌<◌, ◌≤◌, true, false, List, sym, refl, ap, ◌∙◌, arith}
 use Rattle.std.proofs.lemmas.Bool.{lt-leb, le-leb}
 use Rattle.std.specs.Prelude.{nat_le}
 use Rattle.field.specs.declared.field.Field.{Ghosts as Kind}
@@ -11,7 +11,7 @@ use Rattle.slot.specs.declared.lists.Lists.{Lists}
 use Rattle.protocol.specs.declared.command.Command.TheVariants.{Read}
 use Rattle.field.specs.declared.hearing.Hearing.{Hearing}
 use Rattle.field.specs.declared.hearing.Hearing.TheVariants.{Silence, Lone, Clash}
-use Rattle.slot.specs.Commands.{frame_of, read}
+use Rattle.slot.specs.Commands.{frame_of, target, read}
 use Rattle.slot.specs.Going.{setting, at_slot, over, IsLed, counts_read}
 use Rattle.slot.specs.Rules.{Setting, Play, Phase, in_reading, read_by, reads, deed_in}
 use Rattle.slot.proofs.Moves.{reaches_self, led_on, read_once, with_one, stopped, budget_deed}
@@ -35,14 +35,13 @@ loop-sent-init g c =
     }
 
 -- The next READ, after those that an earlier moment has led to.
-next_read : {F : Type 0} (kind : Kind F) (set : Setting) (p : Play) (serial sent : List ℕ) (from : Stand) (lists : Lists) (a b c : F) (h : Hearing)
-    → IsLed kind set p (at_slot (in_reading serial) from) a b lists → sent ≡ serial → nat_le set.budget from.counts.commands ≡ false
-    → AfterSend kind (frame_of Read (sent ++ 0 ∷ [])) 0 h b c → IsLed kind set p (at_slot (read_by h serial) (with_one from)) a c lists
+next_read : {F : Type 0} (kind : Kind F) (set : Setting) (p : Play) (serial : List ℕ) (from : Stand) (lists : Lists) (a b c : F) (h : Hearing)
+    → IsLed kind set p (at_slot (in_reading serial) from) a b lists → nat_le set.budget from.counts.commands ≡ false
+    → AfterSend kind (frame_of Read (target serial)) 0 h b c → IsLed kind set p (at_slot (read_by h serial) (with_one from)) a c lists
 unfolding read
-next_read kind set p serial sent from lists a b c h was e less after =
+next_read kind set p serial from lists a b c h was less after =
     led_on kind set set p was.0 (at_slot (read_by h serial) (with_one from)) a b c lists was.1 refl
-    (read_once kind set was.0 serial from lists h b c was.2 (ap (nat_le set.budget) was.2.commands ∙ less)
-    (subst (λ (x : List ℕ). AfterSend kind (frame_of Read (x ++ 0 ∷ [])) 0 h b c) e after))
+    (read_once kind set was.0 serial from lists h b c was.2 (ap (nat_le set.budget) was.2.commands ∙ less) after)
 
 -- The same moment, where the commands are counted in other words.
 told_by : {F : Type 0} (kind : Kind F) (set : Setting) (p : Play) (at to : Phase) (from : Stand) (sent : ℕ) (lists : Lists) (a b : F) → at ≡ to
@@ -73,13 +72,13 @@ pub returns-then-eq-clause-rule : goal.returns-then-eq-clause-rule
 returns-then-eq-clause-rule g c coins lists p s =
     let set : Setting = setting coins c.args.self.budget lists in
     let stand : Stand = c.loop-sent.stand in
-    let lone : c.ask-answer.result.hearing ≡ Lone = search rules in
+    let lone : c.read-heard.result ≡ Lone = search rules in
     let room : c.loop-sent.sent < c.args.self.budget = omega arith in
-    told_by g.F.Field set p _ _ stand c.loop-sent.sent lists c.args.field.now c.ask-answer.new.field (ap (λ (h : Hearing). read_by h c.args.serial.now) lone)
+    told_by g.F.Field set p _ _ stand c.loop-sent.sent lists c.args.field.now c.read-heard.new.field (ap (λ (h : Hearing). read_by h c.args.serial.now) lone)
     c.loop-sent.invariant.commands
-    (next_read g.F.Field set p c.args.serial.now c.copy_from_slice.new.self stand lists c.args.field.now c.loop-sent.field c.ask-answer.new.field
-    c.ask-answer.result.hearing (c.loop-sent.invariant.rule coins lists p s) c.copy_from_slice.ensures.after
-    (ap (nat_le c.args.self.budget) c.loop-sent.invariant.commands ∙ lt-leb c.args.self.budget c.loop-sent.sent room) c.ask-answer.ensures.sent)
+    (next_read g.F.Field set p c.args.serial.now stand lists c.args.field.now c.loop-sent.field c.read-heard.new.field
+    c.read-heard.result (c.loop-sent.invariant.rule coins lists p s)
+    (ap (nat_le c.args.self.budget) c.loop-sent.invariant.commands ∙ lt-leb c.args.self.budget c.loop-sent.sent room) c.read-heard.ensures)
 
 pub returns-then-eq-clause-counts : goal.returns-then-eq-clause-counts
 returns-then-eq-clause-counts g c = ap (λ (k : Counts). counts_read k (c.loop-sent.sent + 1)) c.loop-sent.invariant.counts
@@ -100,13 +99,13 @@ loop-sent-preserved g c =
       rule = λ coins lists p s.
           let set : Setting = setting coins c.args.self.budget lists in
           let stand : Stand = c.loop-sent.stand in
-          let other : c.ask-answer.result.hearing ≡ Lone → ⊥ = search rules in
+          let other : c.read-heard.result ≡ Lone → ⊥ = search rules in
           let room : c.loop-sent.sent < c.args.self.budget = omega arith in
-          told_by g.F.Field set p _ _ stand c.loop-sent.sent lists c.args.field.now c.ask-answer.new.field
-          (again_by c.ask-answer.result.hearing c.args.serial.now other) c.loop-sent.invariant.commands
-          (next_read g.F.Field set p c.args.serial.now c.copy_from_slice.new.self stand lists c.args.field.now c.loop-sent.field c.ask-answer.new.field
-          c.ask-answer.result.hearing (c.loop-sent.invariant.rule coins lists p s) c.copy_from_slice.ensures.after
-          (ap (nat_le c.args.self.budget) c.loop-sent.invariant.commands ∙ lt-leb c.args.self.budget c.loop-sent.sent room) c.ask-answer.ensures.sent);
+          told_by g.F.Field set p _ _ stand c.loop-sent.sent lists c.args.field.now c.read-heard.new.field
+          (again_by c.read-heard.result c.args.serial.now other) c.loop-sent.invariant.commands
+          (next_read g.F.Field set p c.args.serial.now stand lists c.args.field.now c.loop-sent.field c.read-heard.new.field
+          c.read-heard.result (c.loop-sent.invariant.rule coins lists p s)
+          (ap (nat_le c.args.self.budget) c.loop-sent.invariant.commands ∙ lt-leb c.args.self.budget c.loop-sent.sent room) c.read-heard.ensures);
     }
 
 pub returns-clause-rule : goal.returns-clause-rule

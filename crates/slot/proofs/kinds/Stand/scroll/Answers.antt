@@ -11,8 +11,8 @@ pub returns-clause-rule : goal.returns-clause-rule
 unfolding scroll
 returns-clause-rule g c coins p s =
     let set : Setting = setting coins c.args.self.budget c.args.lists.now in
-    slot_opened g.F.Field set p Scroll scroll 0 _ c.args.lists.now c.open_slot.new.lists c.args.field.now c.open_slot.new.field
+    slot_opened g.F.Field set p Scroll scroll 0 _ c.args.lists.now c.scroll.new.lists c.args.field.now c.scroll.new.field
     refl refl s.commands s.slots s.serials s.tags
     (silent_deed set p false s.phase (ne_eqb p.waiting 0 (λ e. omega (arith, c.requires, s.waiting)))
     ∙ ap₂ (λ (w n : ℕ). opening_slot set p (opens Scroll scroll 0 (w - 1) n)) s.waiting s.next)
-    c.open_slot.result c.open_slot.ensures.done c.open_slot.ensures.opened c.open_slot.ensures.stopped c.open_slot.ensures.same
+    c.scroll.result c.scroll.ensures

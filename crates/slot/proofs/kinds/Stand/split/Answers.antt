@@ -27,8 +27,9 @@ pub returns-clause-rule : goal.returns-clause-rule
 unfolding query
 returns-clause-rule g c p s =
     let set : Setting = setting c.args.coins.now c.args.self.budget c.args.lists.now in
-    slot_opened g.F.Field set p Query query (coins_at c.args.coins.now c.args.self.next) _ c.args.lists.now c.open_slot.new.lists c.args.field.now c.open_slot.new.field
+    slot_opened g.F.Field set p Query query c.coins_at-row.result _ c.args.lists.now c.query.new.lists c.args.field.now c.query.new.field
     refl refl s.commands s.slots s.serials s.tags
     (clash_deed set p false s.phase (ne_eqb p.waiting 255 (λ e. c.if-self-eq255.false (sym s.waiting ∙ e)))
-    ∙ ap₂ (λ (w n : ℕ). opening_slot set p (opens Query query (coins_at set.coins n) (w + 1) (place_behind set.coins n))) s.waiting s.next)
-    c.open_slot.result c.open_slot.ensures.done c.open_slot.ensures.opened c.open_slot.ensures.stopped c.open_slot.ensures.same
+    ∙ ap₂ (λ (w n : ℕ). opening_slot set p (opens Query query (coins_at set.coins n) (w + 1) (place_behind set.coins n))) s.waiting s.next
+    ∙ ap (λ (row : ℕ). opening_slot set p (opens Query query row (c.args.self.waiting + 1) (place_behind set.coins c.args.self.next))) (sym c.coins_at-row.ensures))
+    c.query.result c.query.ensures
