@@ -3,7 +3,6 @@ use Rattle.std.proofs.Common.{◌≡◌, ℕ, zero, suc, ◌+◌, eqb, cond, [],
 use Rattle.std.proofs.lemmas.List.{length-append}
 use Rattle.std.proofs.lemmas.List.Sums.{sum_by_push}
 use Rattle.protocol.specs.declared.command.Command.{Command}
-use Rattle.frame.specs.Openings.{Opening}
 use Rattle.field.specs.declared.hearing.Hearing.{Hearing}
 use Rattle.field.specs.declared.hearing.Hearing.TheVariants.{Silence, Lone, Clash}
 use Rattle.field.specs.Airs.{Air, hearing_number}
@@ -35,7 +34,7 @@ Even (ended zero) p = Balanced p
 Even (ended (suc n)) p = Unit {0}
 
 -- A slot that opens, with the balance of the groups as it is then to be.
-even_open : (h : Hearing) (c : Command) (frame : Opening) (row g next : ℕ) (p : Play) (air : Air) → g + settled p ≡ heard_as Clash p.slots
+even_open : (h : Hearing) (c : Command) (frame : List ℕ) (row g next : ℕ) (p : Play) (air : Air) → g + settled p ≡ heard_as Clash p.slots
     → p.commands ≡ length p.slots + p.reads → Even (opened_by h air) (done (opens c frame row g next) h p)
 even_open Silence c frame row g next p air a b =
     let slot : SlotRow = record { command = c; hearing = Silence; waiting = g } in

@@ -5,7 +5,7 @@ use Rattle.std.specs.Str.{bytes_eq}
 use Rattle.std.proofs.lemmas.Slice.Eq.{bytes_eq-Decides}
 use Rattle.std.proofs.lemmas.List.Sums.{sum_by-cons, sum_by-append}
 use Rattle.crc.specs.Check.{sealed}
-use Rattle.frame.specs.Openings.{Opening}
+use Rattle.frame.specs.Openings.{Opening, opening}
 use Rattle.record.specs.declared.Tag.{Tag}
 use Rattle.record.specs.Records.{serial_of}
 use Rattle.tag.specs.Orders.{order}
@@ -139,7 +139,7 @@ no_turns (t ∷ ts) h =
 
 -- The closing REPEAT.
 pub closed : (row : ℕ) (tags : List Tag) → AllByRecursion (Fit 0) tags → AllByRecursion (λ t. has_turn t ≡ false) tags
-    → stepped_all again row tags ≡ map outcome tags
+    → stepped_all (opening again) row tags ≡ map outcome tags
 unfolding stepped_all
 closed row [] fits h = refl
 closed row (t ∷ ts) fits h =

@@ -8,12 +8,9 @@ use Rattle.slot.specs.declared.ending.End.{End}
 use Rattle.slot.specs.declared.ending.End.TheVariants.{Whole, Stopped}
 use Rattle.slot.specs.declared.ending.Stop.TheVariants.{Deep, Spent, Full}
 use Rattle.slot.specs.Countings.{end_number}
-use Rattle.slot.specs.Rules.{Setting, Phase, fresh, in_silence, in_lone, in_clash, in_reading, ended, Play, beginning, went, may_hear, played, Heard}
-use Rattle.sweep.specs.Cases.{EmptySweeps}
+use Rattle.slot.specs.Rules.{Phase, fresh, in_silence, in_lone, in_clash, in_reading, ended, Play, beginning, went, may_hear, played, Heard}
+use Rattle.sweep.specs.Cases.{narrow, EmptySweeps}
 use Rattle.sweep.specs.Whole.{Reported}
-
-abbrev small : Setting
-small = record { coins = 2 ∷ []; budget = 2; slot_room = 1; serial_room = 0 }
 
 abbrev last : Play
 last =
@@ -48,35 +45,36 @@ number_of_end (ended n) = n
 unfinished : {P : Type 0} (p q : Phase) (k : ℕ) → p ≡ q → is_over q ≡ 0 → p ≡ ended k → P
 unfinished p q k e o f = absurd (let z : ◌≡◌ {A = ℕ} 0 1 = sym o ∙ ap is_over (sym e) ∙ ap is_over f in omega arith)
 
-stays : (hs : List Hearing) → played small hs last ≡ last
-unfolding played went
-stays [] = refl
-stays (h ∷ hs) = stays hs
+module _ (row room : ℕ) where
+  stays : (hs : List Hearing) → played (narrow row room) hs last ≡ last
+  unfolding played went
+  stays [] = refl
+  stays (h ∷ hs) = stays hs
 
-closed : (h : Hearing) → went small h (went small Silence (beginning [])) ≡ last
-unfolding went on_air stepped_all
-closed h = refl
+  closed : (h : Hearing) → went (narrow row room) h (went (narrow row room) Silence (beginning [])) ≡ last
+  unfolding went on_air stepped_all
+  closed h = refl
 
-opened : (went small Silence (beginning [])).phase ≡ in_silence
-unfolding went on_air
-opened = refl
+  opened : (went (narrow row room) Silence (beginning [])).phase ≡ in_silence
+  unfolding went on_air
+  opened = refl
 
-only_silence : (h : Hearing) → may_hear small (beginning []) h → h ≡ Silence
-unfolding may_hear on_air
-only_silence h e = e
+  only_silence : (h : Hearing) → may_hear (narrow row room) (beginning []) h → h ≡ Silence
+  unfolding may_hear on_air
+  only_silence h e = e
 
-second : (hs : List Hearing) (k : ℕ) → (played small hs (went small Silence (beginning []))).phase ≡ ended k → played small hs (went small Silence (beginning [])) ≡ last
-unfolding played
-second [] k e = unfinished _ in_silence k opened refl e
-second (h ∷ hs) k e = ap (played small hs) (closed h) ∙ stays hs
+  second : (hs : List Hearing) (k : ℕ) → (played (narrow row room) hs (went (narrow row room) Silence (beginning []))).phase ≡ ended k → played (narrow row room) hs (went (narrow row room) Silence (beginning [])) ≡ last
+  unfolding played
+  second [] k e = unfinished _ in_silence k opened refl e
+  second (h ∷ hs) k e = ap (played (narrow row room) hs) (closed h) ∙ stays hs
 
-first : (hs : List Hearing) (k : ℕ) → Heard small hs (beginning []) → (played small hs (beginning [])).phase ≡ ended k → played small hs (beginning []) ≡ last
-unfolding played Heard
-first [] k h e = unfinished _ fresh k refl refl e
-first (x ∷ hs) k h e =
-    let heard : x ≡ Silence = only_silence x h.0 in
-    ap (λ (y : Hearing). played small hs (went small y (beginning []))) heard
-    ∙ second hs k (ap (λ (y : Hearing). (played small hs (went small y (beginning []))).phase) (sym heard) ∙ e)
+  first : (hs : List Hearing) (k : ℕ) → Heard (narrow row room) hs (beginning []) → (played (narrow row room) hs (beginning [])).phase ≡ ended k → played (narrow row room) hs (beginning []) ≡ last
+  unfolding played Heard
+  first [] k h e = unfinished _ fresh k refl refl e
+  first (x ∷ hs) k h e =
+      let heard : x ≡ Silence = only_silence x h.0 in
+      ap (λ (y : Hearing). played (narrow row room) hs (went (narrow row room) y (beginning []))) heard
+      ∙ second hs k (ap (λ (y : Hearing). (played (narrow row room) hs (went (narrow row room) y (beginning []))).phase) (sym heard) ∙ e)
 
 whole_end : (e : End) → end_number e ≡ 0 → e ≡ Whole
 whole_end Whole z = refl
@@ -87,8 +85,8 @@ whole_end (Stopped Full) z = absurd (omega (arith, z))
 pub empty_sweeps : EmptySweeps
 unfolding EmptySweeps
 empty_sweeps = (
-  (λ faithful o s.
-      let r = subst (Reported o) (first s.hearings (end_number o.report.end) s.heard s.by_rule.at_end) s.by_rule in
+  (λ row room hs o after heard by_rule.
+      let r = subst (Reported o after) (first row room hs (end_number o.report.end) heard by_rule.at_end) by_rule in
       let whole : o.report.end ≡ Whole = whole_end o.report.end (ap number_of_end (sym r.at_end)) in
       (λ i. record { end = whole i; counts = record { lone = r.lone i; silent = r.silent i; clash = r.clash i; commands = r.commands i } }, r.slots)),
   tt,

@@ -4,7 +4,6 @@ use Rattle.std.proofs.lemmas.Bool.{cases_lt}
 use Rattle.std.proofs.lemmas.List.{length-append}
 use Rattle.std.proofs.lemmas.List.Sums.{count_by-le-length}
 use Rattle.protocol.specs.declared.command.Command.{Command}
-use Rattle.frame.specs.Openings.{Opening}
 use Rattle.field.specs.declared.hearing.Hearing.{Hearing}
 use Rattle.field.specs.declared.hearing.Hearing.TheVariants.{Silence, Lone, Clash}
 use Rattle.field.specs.Airs.{Air}
@@ -27,7 +26,7 @@ Paced n in_clash p = InPace n 0 p
 Paced n (in_reading serial) p = InPace n 0 p
 Paced n (ended k) p = Unit {0}
 
-paced_open : (n : ℕ) (h : Hearing) (c : Command) (frame : Opening) (row g next : ℕ) (p : Play) (air : Air) → InPace n 0 p
+paced_open : (n : ℕ) (h : Hearing) (c : Command) (frame : List ℕ) (row g next : ℕ) (p : Play) (air : Air) → InPace n 0 p
     → Paced (n + 1) (opened_by h air) (done (opens c frame row g next) h p)
 paced_open n Silence c frame row g next p air e =
     record { deeds = omega (arith, e.deeds); lone = omega (arith, e.lone, one_more Lone p.slots (record { command = c; hearing = Silence; waiting = g })) }

@@ -16,19 +16,19 @@ use Rattle.field.specs.Airs.{one}
 use Rattle.field.specs.Sends.{padded}
 use Rattle.slot.specs.Commands.{word, target, select, query, scroll, again, read, serial_in}
 
-pub order-select : order select ≡ orders.select 0x00 0xc0 word
+pub order-select : order (opening select) ≡ orders.select 0x00 0xc0 word
 unfolding select opening is_sealed front parameters_of named moved_up bit_taken bits byte_taken sealed
 order-select = refl
 
-pub order-query : order query ≡ orders.query
+pub order-query : order (opening query) ≡ orders.query
 unfolding query opening is_sealed front parameters_of named moved_up bit_taken bits byte_taken sealed
 order-query = refl
 
-pub order-scroll : order scroll ≡ orders.scroll
+pub order-scroll : order (opening scroll) ≡ orders.scroll
 unfolding scroll opening is_sealed front parameters_of named moved_up bit_taken bits byte_taken sealed
 order-scroll = refl
 
-pub order-again : order again ≡ orders.again
+pub order-again : order (opening again) ≡ orders.again
 unfolding again opening is_sealed front parameters_of named moved_up bit_taken bits byte_taken sealed
 order-again = refl
 
@@ -53,7 +53,7 @@ order-placed : (serial : List ℕ) → length serial ≡ 8 → order (opened 0x0
 order-placed serial h =
     ap₂ (λ (s : List ℕ) (rest : List ℕ). orders.read s (get_or (take 1 rest) 0 0) 8) (take_at serial (0x00 ∷ []) 8 h) (drop_at serial (0x00 ∷ []) 8 h)
 
-pub order-read : (serial : List ℕ) → length serial ≡ 8 → order (read serial) ≡ orders.read serial 0x00 8
+pub order-read : (serial : List ℕ) → length serial ≡ 8 → order (opening (read serial)) ≡ orders.read serial 0x00 8
 unfolding read parameters_of
 order-read serial h =
     let parameters : List ℕ = target serial in

@@ -1,8 +1,9 @@
 -- From where a sweep has come to what it reports, and the laws of that. Assumes nothing.
-use Rattle.std.proofs.Common.{◌≡◌, ℕ, zero, suc, ◌+◌, inl, inr, Bool, cond, List, [], ◌∷◌, length, sym, refl, ap, ◌∙◌, subst, arith}
+use Rattle.std.proofs.Common.{◌≡◌, ℕ, zero, suc, ◌+◌, inl, inr, cond, List, [], ◌∷◌, length, sym, refl, ap, ◌∙◌, subst, arith}
 use Rattle.std.proofs.lemmas.List.Sums.{sum_by-cons}
 use Rattle.std.specs.Prelude.{◌==◌}
 use Rattle.record.specs.declared.Tag.{Tag}
+use Rattle.field.specs.declared.field.Field.{Ghosts as Kind}
 use Rattle.field.specs.Airs.{hearing_number}
 use Rattle.rows.specs.Filling.{rows_of}
 use Rattle.field.specs.declared.hearing.Hearing.{Hearing}
@@ -13,10 +14,10 @@ use Rattle.slot.specs.declared.lists.Lists.{Lists}
 use Rattle.slot.specs.Countings.{end_number}
 use Rattle.slot.specs.Going.{setting, over, EndsAt}
 use Rattle.slot.specs.Rules.{Setting, Play, ended, beginning, played, replayed, went, plain}
-use Rattle.sweep.specs.Fates.{due_serials, Sized, Distinct, EachOnce}
+use Rattle.sweep.specs.Fates.{due_serials, Distinct, EachOnce}
 use Rattle.sweep.specs.Steps.{Tallied}
 use Rattle.sweep.specs.Tallies.{heard_as, enough}
-use Rattle.sweep.specs.Whole.{Outcome, Reported, Swept, Complete, Lawful}
+use Rattle.sweep.specs.Whole.{Outcome, outcome_of, Reported, Swept, Complete, Lawful}
 use Rattle.sweep.proofs.Balances.{ends_balanced}
 use Rattle.sweep.proofs.Ends.{settles}
 use Rattle.sweep.proofs.Plays.{fates}
@@ -47,15 +48,15 @@ unfolding replayed played
 replay_played set zero p = ([], refl)
 replay_played set (suc n) p = let rest = replay_played set n (went set (plain set p) p) in (plain set p ∷ rest.0, rest.1)
 
-module _ (faithful : Bool) (coins : List ℕ) (budget : ℕ) (first : Lists) (before : List Tag) (report : Report) (l : Lists) (after : List Tag)
-    (come : Come faithful coins budget first before (over (end_number report.end) report.counts) l after) (tally : Tallied report.counts (rows_of l.slots)) where
+module _ {F : Type 0} (kind : Kind F) (coins : List ℕ) (budget : ℕ) (first : Lists) (before : F) (report : Report) (l : Lists) (after : F)
+    (come : Come kind coins budget first before (over (end_number report.end) report.counts) after l) (tally : Tallied report.counts (rows_of l.slots)) where
   abbrev set : Setting
   set = setting coins budget first
 
   abbrev outcome : Outcome
-  outcome = record { report = report; slots = rows_of l.slots; serials = rows_of l.serials; tags = after }
+  outcome = outcome_of report l
 
-  reported : (q : Play) → EndsAt (end_number report.end) report.counts l after q → Reported outcome q
+  reported : (q : Play) → EndsAt (end_number report.end) report.counts l (kind.tags after) q → Reported outcome (kind.tags after) q
   reported q e =
       record {
         at_end = e.phase;
@@ -68,31 +69,34 @@ module _ (faithful : Bool) (coins : List ℕ) (budget : ℕ) (first : Lists) (be
         tags = sym e.tags;
       }
 
-  pub swept_by : Swept faithful set before outcome
+  pub swept_by : Swept kind set before after outcome
   swept_by =
-      let q = come (beginning before) refl in
-      let r = subst (Reported outcome) q.1.there (reported q.0 q.2) in
+      let r = subst (Reported outcome (kind.tags after)) come.1.there (reported come.0 come.2) in
       record {
-        hearings = q.1.hearings;
-        heard = q.1.heard;
+        hearings = come.1.hearings;
+        heard = come.1.heard;
         by_rule = r;
+        field = come.1.field;
         plain = λ f.
-            let e = q.1.plain f in
-            subst (Reported outcome)
-            (e ∙ settles set (length q.1.hearings) (end_number report.end) before (ap (λ (p : Play). p.phase) (sym e) ∙ q.2.phase))
-            (reported q.0 q.2);
+            let e = come.1.plain f in
+            subst (Reported outcome (kind.tags after))
+            (e ∙ settles set (length come.1.hearings) (end_number report.end) (kind.tags before) (ap (λ (p : Play). p.phase) (sym e) ∙ come.2.phase))
+            (reported come.0 come.2);
         commands = λ e.
-            let c = ends_balanced set q.1.hearings before (r.at_end ∙ ap ended e) in
-            r.commands ∙ c.commands ∙ ap (λ (n : ℕ). n + (played set q.1.hearings (beginning before)).reads + 1) (ap length (sym r.slots));
+            let c = ends_balanced set come.1.hearings (kind.tags before) (r.at_end ∙ ap ended e) in
+            r.commands ∙ c.commands ∙ ap (λ (n : ℕ). n + (played set come.1.hearings (beginning (kind.tags before))).reads + 1) (ap length (sym r.slots));
       }
 
 -- What holds of every sweep.
-module _ (faithful : Bool) (set : Setting) (before : List Tag) (o : Outcome) (sized : Sized before) (s : Swept faithful set before o) where
-  whole : end_number o.report.end ≡ 0 → Complete faithful before o
+module _ {F : Type 0} (kind : Kind F) (set : Setting) (a b : F) (o : Outcome) (s : Swept kind set a b o) where
+  abbrev before : List Tag
+  before = kind.tags a
+
+  whole : end_number o.report.end ≡ 0 → Complete (kind.faithful a) before (kind.tags b) o
   whole e =
       let p : Play = played set s.hearings (beginning before) in
       let c = ends_balanced set s.hearings before (s.by_rule.at_end ∙ ap ended e) in
-      let fated = λ (d : Distinct before). fates set s.hearings before sized d s.heard (s.by_rule.at_end ∙ ap ended e) in
+      let fated = λ (d : Distinct before). fates set s.hearings before (kind.sized a) d s.heard (s.by_rule.at_end ∙ ap ended e) in
       record {
         slots = omega (arith, c.slots, s.by_rule.lone, s.by_rule.silent, s.by_rule.clash);
         commands = λ f.
@@ -107,7 +111,7 @@ module _ (faithful : Bool) (set : Setting) (before : List Tag) (o : Outcome) (si
         serials = λ d. subst (λ (x : List (List ℕ)). EachOnce x (due_serials before)) (sym s.by_rule.serials) (fated d).serials;
       }
 
-  pub lawful : Lawful faithful set before o
+  pub lawful : Lawful (kind.faithful a) set before (kind.tags b) o
   lawful =
       let k = keeps set s.hearings before in
       record {

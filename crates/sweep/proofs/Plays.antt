@@ -2,17 +2,18 @@
 use Rattle.std.proofs.Common.{◌≡◌, ℕ, ◌+◌, ◌-◌, ◌≤◌, Bool, false, cond, leb, eqb, List, [], ◌∷◌, map, length, sym, refl, ap, ◌∙◌, ap₂, subst, ⊎_elim, arith}
 use Rattle.std.specs.List.{AllByRecursion}
 use Rattle.std.proofs.lemmas.Bool.{cond_both, eqb-true}
-use Rattle.std.proofs.lemmas.List.Elements.{All-map, recursion_from_All}
+use Rattle.std.proofs.lemmas.List.{length-take-le}
+use Rattle.std.proofs.lemmas.List.Elements.{recursion_from_All}
 use Rattle.protocol.specs.declared.command.Command.{Command}
 use Rattle.protocol.specs.declared.command.Command.TheVariants.{Select, Query, Scroll}
-use Rattle.frame.specs.Openings.{Opening}
+use Rattle.frame.specs.Openings.{opening}
 use Rattle.record.specs.declared.Tag.{Tag}
 use Rattle.record.specs.Records.{serial_of}
 use Rattle.tag.specs.Orders.{order}
 use Rattle.field.specs.declared.hearing.Hearing.{Hearing}
 use Rattle.field.specs.declared.hearing.Hearing.TheVariants.{Silence, Lone, Clash}
 use Rattle.field.specs.Airs.{Air, MayHear}
-use Rattle.field.specs.Sends.{stepped_all, on_air}
+use Rattle.field.specs.Sends.{stepped_all, on_air, Sized}
 use Rattle.slot.specs.Commands.{select, query, scroll, read}
 use Rattle.slot.specs.Rules.{Setting, Phase, fresh, in_silence, in_lone, in_clash, in_reading, ended, Play, beginning, Deed, stops, opens, lists, reads, closes, commanding, opening_slot, coins_at, place_behind, deed_in, air_of, opened_by, read_by, done, went, may_hear, played, Heard}
 use Rattle.sweep.specs.Fates.{is_due, fate_of, times, due_serials, Distinct, Fated, Fates}
@@ -83,20 +84,20 @@ module _ (before : List Tag) (sized : AreSized (map serial_of before)) (distinct
   distinct_still : (tags : List Tag) → map outcome tags ≡ map fate_of before → Distinct tags
   distinct_still tags e serial = subst (λ (l : List (List ℕ)). times serial l ≤ 1) (sym (same_serials tags before e)) (distinct serial)
 
-  slot : (c : Command) (frame : Opening) (row g next : ℕ) (h : Hearing) (p : Play) (Before : Tag → Type 0) (goal : Tag → Tag) (chosen : Tag → Bool)
-      → Takes (order frame) Before (Fit g) goal chosen → Opens (order frame) → AllByRecursion Before p.tags → map goal p.tags ≡ map fate_of before
+  slot : (c : Command) (frame : List ℕ) (row g next : ℕ) (h : Hearing) (p : Play) (Before : Tag → Type 0) (goal : Tag → Tag) (chosen : Tag → Bool)
+      → Takes (order (opening frame)) Before (Fit g) goal chosen → Opens (order (opening frame)) → AllByRecursion Before p.tags → map goal p.tags ≡ map fate_of before
       → ((serial : List ℕ) → times serial p.serials + tally chosen serial p.tags ≡ times serial (due_serials before))
       → StandsAfter before h p (opens c frame row g next)
   slot c frame row g next h p Before goal chosen each heard all goals counts m =
-      let after : List Tag = stepped_all frame row p.tags in
-      let air : on_air frame row p.tags ≡ voices (turns after) = air_after frame heard row p.tags in
-      let outcomes : map outcome after ≡ map fate_of before = outcomes_after frame Before (Fit g) goal chosen each row p.tags all ∙ goals in
+      let after : List Tag = stepped_all (opening frame) row p.tags in
+      let air : on_air (opening frame) row p.tags ≡ voices (turns after) = air_after (opening frame) heard row p.tags in
+      let outcomes : map outcome after ≡ map fate_of before = outcomes_after (opening frame) Before (Fit g) goal chosen each row p.tags all ∙ goals in
       let b : Between before g p.serials after =
       record {
         outcomes = outcomes;
-        fits = all_after frame Before (Fit g) goal chosen each row p.tags all;
+        fits = all_after (opening frame) Before (Fit g) goal chosen each row p.tags all;
         counts = λ serial.
-            ap (λ (n : ℕ). times serial p.serials + n) (active_after frame Before (Fit g) goal chosen each serial row p.tags all) ∙ counts serial;
+            ap (λ (n : ℕ). times serial p.serials + n) (active_after (opening frame) Before (Fit g) goal chosen each serial row p.tags all) ∙ counts serial;
       } in
       subst (λ (a : Air). Stands before (done (opens c frame row g next) h p) (opened_by h a)) (sym air)
       (opened before (turns after) h (done (opens c frame row g next) h p) refl (subst (λ (a : Air). MayHear a h) air m)
@@ -121,21 +122,21 @@ module _ (before : List Tag) (sized : AreSized (map serial_of before)) (distinct
   -- A READ, by how it is heard.
   module _ (serial : List ℕ) (p : Play) (r : Reading before p.waiting p.serials serial p.tags) where
     abbrev after_read : List Tag
-    after_read = stepped_all (read serial) 0 p.tags
+    after_read = stepped_all (opening (read serial)) 0 p.tags
 
     unheard : AllByRecursion (Unheard serial p.waiting) after_read
     unheard =
-        all_after (read serial) (Readable serial p.waiting) (Unheard serial p.waiting) outcome (is_left_by serial) (read_each serial p.waiting r.size) 0 p.tags r.ready
+        all_after (opening (read serial)) (Readable serial p.waiting) (Unheard serial p.waiting) outcome (is_left_by serial) (read_each serial p.waiting r.size) 0 p.tags r.ready
 
     read_outcomes : map outcome after_read ≡ map fate_of before
     read_outcomes =
-        outcomes_after (read serial) (Readable serial p.waiting) (Unheard serial p.waiting) outcome (is_left_by serial) (read_each serial p.waiting r.size) 0 p.tags r.ready
+        outcomes_after (opening (read serial)) (Readable serial p.waiting) (Unheard serial p.waiting) outcome (is_left_by serial) (read_each serial p.waiting r.size) 0 p.tags r.ready
         ∙ r.outcomes
 
     read_counts : (s : List ℕ) → times s p.serials + tally is_active s after_read ≡ times s (due_serials before)
     read_counts s =
         ap (λ (n : ℕ). times s p.serials + n)
-        (active_after (read serial) (Readable serial p.waiting) (Unheard serial p.waiting) outcome (is_left_by serial) (read_each serial p.waiting r.size) s 0 p.tags r.ready)
+        (active_after (opening (read serial)) (Readable serial p.waiting) (Unheard serial p.waiting) outcome (is_left_by serial) (read_each serial p.waiting r.size) s 0 p.tags r.ready)
         ∙ r.counts s
 
     reading_on : Reading before p.waiting p.serials serial after_read
@@ -211,9 +212,17 @@ module _ (before : List Tag) (sized : AreSized (map serial_of before)) (distinct
   deeds set [] p k heard = k
   deeds set (h ∷ hs) p k heard = deeds set hs (went set h p) (deed set h p p.phase refl k heard.0) heard.1
 
+-- Serial numbers have eight bytes, as memories have 56.
+serials_each : (tags : List Tag) → AllByRecursion (λ t. length t.memory ≡ 56) tags → AreSized (map serial_of tags)
+serials_each [] h = tt
+serials_each (t ∷ ts) h =
+    let eight : length (serial_of t) ≡ 8 = length-take-le 8 t.memory (omega (arith, h.0)) in
+    (eight, serials_each ts h.1)
+
+pub sized_serials : (tags : List Tag) → Sized tags → AreSized (map serial_of tags)
+sized_serials tags sized = serials_each tags (recursion_from_All (λ t. length t.memory ≡ 56) tags sized)
+
 pub fates : Fates
 fates set hs tags sized distinct heard e =
-    let serials : AreSized (map serial_of tags) =
-    recursion_from_All (λ (s : List ℕ). length s ≡ 8) (map serial_of tags) (All-map (λ (s : List ℕ). length s ≡ 8) serial_of tags sized) in
     subst (λ (phase : Phase). Stands tags (played set hs (beginning tags)) phase) e
-    (deeds tags serials distinct set hs (beginning tags) (refl, refl) heard) refl
+    (deeds tags (sized_serials tags sized) distinct set hs (beginning tags) (refl, refl) heard) refl

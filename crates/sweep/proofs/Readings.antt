@@ -48,7 +48,7 @@ named_read : (bytes : List ℕ) → named (get_or (sealed (code_of Read ∷ byte
 unfolding named sealed
 named_read bytes = refl
 
-steady : (serial : List ℕ) → IsSteady (read serial)
+steady : (serial : List ℕ) → IsSteady (opening (read serial))
 unfolding read opening
 steady serial =
     let frame : List ℕ = frame_of Read (target serial) in
@@ -69,7 +69,7 @@ steady_air frame h r q s (t ∷ ts) =
 
 -- No READ of a serial number will ever be heard as lone.
 abbrev IsStuck : List ℕ → Play → Type 0
-IsStuck serial p = plainly (on_air (read serial) 0 p.tags) ≡ Lone → ⊥
+IsStuck serial p = plainly (on_air (opening (read serial)) 0 p.tags) ≡ Lone → ⊥
 
 abbrev Once : Phase → Play → Type 0
 Once fresh p = p.reads ≡ heard_as Lone p.slots
@@ -80,17 +80,17 @@ Once (in_reading serial) p = (p.reads + 1 ≡ heard_as Lone p.slots) ⊎ IsStuck
 Once (ended zero) p = p.reads ≡ heard_as Lone p.slots
 Once (ended (suc n)) p = Unit {0}
 
-once_open : (h : Hearing) (c : Command) (frame : Opening) (row g next : ℕ) (p : Play) (air : Air) → p.reads ≡ heard_as Lone p.slots
+once_open : (h : Hearing) (c : Command) (frame : List ℕ) (row g next : ℕ) (p : Play) (air : Air) → p.reads ≡ heard_as Lone p.slots
     → Once (opened_by h air) (done (opens c frame row g next) h p)
 once_open Silence c frame row g next p air e = omega (arith, one_more Lone p.slots (record { command = c; hearing = Silence; waiting = g }))
 once_open Lone c frame row g next p air e = omega (arith, one_more Lone p.slots (record { command = c; hearing = Lone; waiting = g }))
 once_open Clash c frame row g next p air e = omega (arith, one_more Lone p.slots (record { command = c; hearing = Clash; waiting = g }))
 
 -- A READ that is not heard as lone never will be.
-stays_stuck : (serial : List ℕ) (p : Play) → IsStuck serial p → IsStuck serial (record p { tags = stepped_all (read serial) 0 p.tags })
-stays_stuck serial p stuck e = stuck (sym (ap plainly (steady_air (read serial) (steady serial) 0 0 0 p.tags)) ∙ e)
+stays_stuck : (serial : List ℕ) (p : Play) → IsStuck serial p → IsStuck serial (record p { tags = stepped_all (opening (read serial)) 0 p.tags })
+stays_stuck serial p stuck e = stuck (sym (ap plainly (steady_air (opening (read serial)) (steady serial) 0 0 0 p.tags)) ∙ e)
 
-once_read : (h : Hearing) (serial : List ℕ) (p : Play) → plainly (on_air (read serial) 0 p.tags) ≡ h → (p.reads + 1 ≡ heard_as Lone p.slots) ⊎ IsStuck serial p
+once_read : (h : Hearing) (serial : List ℕ) (p : Play) → plainly (on_air (opening (read serial)) 0 p.tags) ≡ h → (p.reads + 1 ≡ heard_as Lone p.slots) ⊎ IsStuck serial p
     → Once (read_by h serial) (done (reads serial) h p)
 once_read Silence serial p heard or_stuck = inr (stays_stuck serial p (λ e. let k : Silence ≡ Lone = sym heard ∙ e in cc))
 once_read Clash serial p heard or_stuck = inr (stays_stuck serial p (λ e. let k : Clash ≡ Lone = sym heard ∙ e in cc))

@@ -2,7 +2,6 @@
 use Rattle.std.proofs.Common.{◌≡◌, ℕ, ◌<◌, ◌≤◌, ◌⊎◌, [], ◌∷◌, List, length, inl, inr, arith}
 use Rattle.std.proofs.lemmas.List.{length-append}
 use Rattle.protocol.specs.declared.command.Command.{Command}
-use Rattle.frame.specs.Openings.{Opening}
 use Rattle.record.specs.declared.Tag.{Tag}
 use Rattle.field.specs.declared.hearing.Hearing.{Hearing}
 use Rattle.field.specs.declared.hearing.Hearing.TheVariants.{Silence, Lone, Clash}
@@ -50,7 +49,7 @@ module _ (set : Setting) where
               ];
         }
 
-    kept_open : (c : Command) (frame : Opening) (row g next : ℕ) → p.commands < set.budget → length p.slots < set.slot_room
+    kept_open : (c : Command) (frame : List ℕ) (row g next : ℕ) → p.commands < set.budget → length p.slots < set.slot_room
         → Kept set (done (opens c frame row g next) h p)
     kept_open c frame row g next a b =
         let slot : SlotRow = record { command = c; hearing = h; waiting = g } in

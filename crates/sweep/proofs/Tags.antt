@@ -2,6 +2,7 @@
 use Rattle.std.proofs.Common.{◌≡◌, ℕ, ◌+◌, ◌-◌, ◌≤◌, Bool, true, false, cond, not, ◌&&◌, ◌||◌, eqb, ltb, List, length, Some, None, Option, sym, refl, ap, ◌∙◌, subst, arith, eq-eqb}
 use Rattle.std.proofs.lemmas.Bool.{true≢false, and_right, and_parts, eqb-true, cond_both}
 use Rattle.std.proofs.Math.Bool.{and-true}
+use Rattle.frame.specs.Openings.{opening}
 use Rattle.record.specs.declared.State.{State}
 use Rattle.record.specs.declared.State.TheVariants.{Ready, Singulation, Inventoried}
 use Rattle.record.specs.declared.WriteMark.{WriteMark}
@@ -276,32 +277,32 @@ pub serial_of_fate : (t : Tag) → serial_of (fate_of t) ≡ serial_of t
 serial_of_fate t = either (λ (u : Tag). serial_of u ≡ serial_of t) (is_due t) (moved (counting_to 0 t)) t refl refl
 
 -- What a sweep's commands do to each tag.
-pub select_each : Takes (order select) (λ t. Unit {0}) (Fit 0) fate_of is_due
+pub select_each : Takes (order (opening select)) (λ t. Unit {0}) (Fit 0) fate_of is_due
 select_each = subst (λ (o : Order). Takes o (λ t. Unit {0}) (Fit 0) fate_of is_due) (sym order-select) select_takes
 
-pub query_each : (w : ℕ) → Takes (order query) (Fit w) (Fit (w + 1)) outcome is_active
+pub query_each : (w : ℕ) → Takes (order (opening query)) (Fit w) (Fit (w + 1)) outcome is_active
 query_each w = subst (λ (o : Order). Takes o (Fit w) (Fit (w + 1)) outcome is_active) (sym order-query) (query_takes w)
 
-pub scroll_each : (w : ℕ) → Takes (order scroll) (Fit w) (Fit (w - 1)) outcome is_active
+pub scroll_each : (w : ℕ) → Takes (order (opening scroll)) (Fit w) (Fit (w - 1)) outcome is_active
 scroll_each w = subst (λ (o : Order). Takes o (Fit w) (Fit (w - 1)) outcome is_active) (sym order-scroll) (scroll_takes w)
 
 pub read_each : (serial : List ℕ) (w : ℕ) → length serial ≡ 8
-    → Takes (order (read serial)) (Readable serial w) (Unheard serial w) outcome (is_left_by serial)
+    → Takes (order (opening (read serial))) (Readable serial w) (Unheard serial w) outcome (is_left_by serial)
 read_each serial w h =
     subst (λ (o : Order). Takes o (Readable serial w) (Unheard serial w) outcome (is_left_by serial)) (sym (order-read serial h)) (read_takes serial w)
 
-pub again_each : (coin : Bool) (t : Tag) → Fit 0 t → has_turn t ≡ false → stepped again coin t ≡ outcome t
+pub again_each : (coin : Bool) (t : Tag) → Fit 0 t → has_turn t ≡ false → stepped (opening again) coin t ≡ outcome t
 again_each coin t fit h =
     ap (λ (o : Order). obeyed o coin t.permission (met t)) order-again
     ∙ ap (λ (k : WriteMark). permitting None (marking k t)) fit.mark
     ∙ ap (λ (b : Bool). permitting None (marking Clear (cond b (moved (counting_to 0 t)) t))) (sym (not_active t fit h))
 
 -- Who replies to those that open a slot.
-pub select_heard : Opens (order select)
+pub select_heard : Opens (order (opening select))
 select_heard = subst Opens (sym order-select) select_opens
 
-pub query_heard : Opens (order query)
+pub query_heard : Opens (order (opening query))
 query_heard = subst Opens (sym order-query) query_opens
 
-pub scroll_heard : Opens (order scroll)
+pub scroll_heard : Opens (order (opening scroll))
 scroll_heard = subst Opens (sym order-scroll) scroll_opens

@@ -1,13 +1,14 @@
 -- From slot to slot of a sweep: what each step adds to those before it. Assumes nothing.
-use Rattle.std.proofs.Common.{◌≡◌, ℕ, ◌+◌, ◌-◌, ◌≤◌, Bool, List, [], ◌∷◌, length, drop, sym, refl, ap, ◌∙◌, arith}
+use Rattle.std.proofs.Common.{◌≡◌, ℕ, ◌+◌, ◌-◌, ◌≤◌, List, [], ◌∷◌, length, drop, sym, ap, ◌∙◌, arith}
 use Rattle.std.proofs.lemmas.List.{length-append, drop-drop}
 use Rattle.record.specs.declared.Tag.{Tag}
 use Rattle.rows.specs.declared.list.Rows.{Rows}
 use Rattle.rows.specs.Filling.{rows_of, Behind}
+use Rattle.field.specs.declared.field.Field.{Ghosts as Kind}
 use Rattle.field.specs.declared.hearing.Hearing.{Hearing}
 use Rattle.slot.specs.declared.kinds.Stand.{Stand}
 use Rattle.slot.specs.declared.lists.Lists.{Lists}
-use Rattle.slot.specs.Going.{GoesOn, setting, Where, at_slot, over, StandsAt, Shows, BothBehind}
+use Rattle.slot.specs.Going.{setting, Where, at_slot, over, Begins, Leads, Shows, BothBehind}
 use Rattle.slot.specs.Rules.{Setting, Phase, Play, Deed, stops, opens, lists, reads, closes, rests, beginning, next_deed, done, went, played}
 use Rattle.slot.proofs.Moves.{led_on, setting_same}
 use Rattle.sweep.proofs.Rooms.{keeps}
@@ -59,48 +60,44 @@ shown_serials : (w : Where) (l : Lists) (population : List Tag) (p : Play) → S
 shown_serials (at_slot phase stand) l population p s = s.serials
 shown_serials (over n counts) l population p s = s.serials
 
-module _ (faithful : Bool) (coins : List ℕ) (budget : ℕ) (first : Lists) (before : List Tag) where
+module _ {F : Type 0} (kind : Kind F) (coins : List ℕ) (budget : ℕ) (first : Lists) (before : F) where
   -- A sweep that has come somewhere from its beginning.
-  abbrev pub Come : Where → Lists → List Tag → Type 0
-  Come w l population = GoesOn faithful (setting coins budget first) (λ p. p ≡ beginning before) (Shows w l population)
+  abbrev pub Come : Where → F → Lists → Type 0
+  Come w field l = Begins kind (setting coins budget first) w before field l
 
   -- It keeps to the budget, and so its slots are few.
-  pub few : (w : Where) (l : Lists) (population : List Tag) → Come w l population → length (rows_of l.slots) ≤ budget
-  few w l population come =
-      let q = come (beginning before) refl in
-      let kept = keeps (setting coins budget first) q.1.hearings before in
-      let same : rows_of l.slots ≡ (played (setting coins budget first) q.1.hearings (beginning before)).slots =
-      sym (shown_slots w l population q.0 q.2) ∙ ap (λ (p : Play). p.slots) q.1.there in
+  pub few : (w : Where) (field : F) (l : Lists) → Come w field l → length (rows_of l.slots) ≤ budget
+  few w field l come =
+      let kept = keeps (setting coins budget first) come.1.hearings (kind.tags before) in
+      let same : rows_of l.slots ≡ (played (setting coins budget first) come.1.hearings (beginning (kind.tags before))).slots =
+      sym (shown_slots w l (kind.tags field) come.0 come.2) ∙ ap (λ (p : Play). p.slots) come.1.there in
       omega (arith, ap length same, kept.opened, kept.budget)
 
-  module _ (phase : Phase) (stand : Stand) (now : Lists) (population : List Tag) (come : Come (at_slot phase stand) now population) (same : stand.budget ≡ budget)
-      (behind : BothBehind first now) (w : Where) (later : Lists) (left : List Tag)
-      (next : GoesOn faithful (setting coins stand.budget now) (StandsAt phase stand now population) (Shows w later left)) where
-    pub come_on : Come w later left
-    come_on p e =
-        let q = come p e in
-        led_on faithful (setting coins budget first) (setting coins stand.budget now) p q.0 w later left q.1
-        (setting_same coins budget stand.budget first now same behind.slots.room behind.serials.room) (next q.0 q.2)
+  module _ (phase : Phase) (stand : Stand) (now : Lists) (field : F) (come : Come (at_slot phase stand) field now) (same : stand.budget ≡ budget)
+      (behind : BothBehind first now) (w : Where) (later : Lists) (left : F) (next : Leads kind coins (at_slot phase stand) w field left now later) where
+    pub come_on : Come w left later
+    come_on =
+        led_on kind (setting coins budget first) (setting coins stand.budget now) (beginning (kind.tags before)) come.0 w before field left later come.1
+        (setting_same coins budget stand.budget first now same behind.slots.room behind.serials.room) (next come.0 come.2)
 
     pub behind_on : BothBehind now later → BothBehind first later
     behind_on more =
-        let q = come (beginning before) refl in
-        let r = next q.0 q.2 in
+        let r = next come.0 come.2 in
         let slots : length (rows_of now.slots) ≤ length (rows_of later.slots) =
         omega (
           arith,
-          ap length q.2.slots,
-          ap length (shown_slots w later left r.0 r.2),
+          ap length come.2.slots,
+          ap length (shown_slots w later (kind.tags left) r.0 r.2),
           ap (λ (p : Play). length p.slots) r.1.there,
-          slots_played (setting coins stand.budget now) r.1.hearings q.0,
+          slots_played (setting coins stand.budget now) r.1.hearings come.0,
         ) in
         let serials : length (rows_of now.serials) ≤ length (rows_of later.serials) =
         omega (
           arith,
-          ap length q.2.serials,
-          ap length (shown_serials w later left r.0 r.2),
+          ap length come.2.serials,
+          ap length (shown_serials w later (kind.tags left) r.0 r.2),
           ap (λ (p : Play). length p.serials) r.1.there,
-          serials_played (setting coins stand.budget now) r.1.hearings q.0,
+          serials_played (setting coins stand.budget now) r.1.hearings come.0,
         ) in
         record {
           slots = behind_more first.slots now.slots later.slots behind.slots more.slots slots;

@@ -1,5 +1,5 @@
 -- What becomes of tags in a whole sweep, and which of them it reports: by no coin, and by no hearing. Assumes nothing.
-use Rattle.std.specs.Prelude.{◌≡◌, ℕ, ◌≤◌, Bool, cond, List, map, length, None, All, count_by, filter}
+use Rattle.std.specs.Prelude.{◌≡◌, ℕ, ◌≤◌, Bool, cond, List, map, None, count_by, filter}
 use Rattle.std.specs.Str.{bytes_eq}
 use Rattle.record.specs.declared.WriteMark.TheVariants.{Clear}
 use Rattle.record.specs.declared.Tag.{Tag}
@@ -7,6 +7,7 @@ use Rattle.record.specs.Masks.{matches}
 use Rattle.record.specs.Records.{serial_of, counting_to, marking, permitting}
 use Rattle.tag.specs.Steps.{is_chosen, moved}
 use Rattle.field.specs.declared.hearing.Hearing.{Hearing}
+use Rattle.field.specs.Sends.{Sized}
 use Rattle.slot.specs.Commands.{word}
 use Rattle.slot.specs.Rules.{Setting, Play, beginning, ended, played, Heard}
 
@@ -28,10 +29,6 @@ due_serials tags = map serial_of (filter is_due tags)
 -- No serial number is there twice.
 abbrev pub Distinct : List Tag → Type 0
 Distinct tags = (serial : List ℕ) → times serial (map serial_of tags) ≤ 1
-
--- Every serial number has its eight bytes.
-abbrev pub Sized : List Tag → Type 0
-Sized tags = All (λ t. length (serial_of t) ≡ 8) tags
 
 -- A list of serial numbers has each that is due, once, and no other.
 pub record EachOnce (serials dues : List (List ℕ)) : Type 0 where

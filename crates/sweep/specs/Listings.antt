@@ -60,7 +60,7 @@ pub record SweepCase : Type 0 where
 
 -- A sweep that has ended gives what the case tells.
 pub record Gives (x : SweepCase) (p : Play) : Type 0 where
-  pub reported : Reported (record { report = x.report; slots = x.slots; serials = x.serials; tags = x.after }) p
+  pub reported : Reported (record { report = x.report; slots = x.slots; serials = x.serials }) x.after p
   pub read : p.reads ≡ x.reads
 
 -- These hearings may come, and with them it gives that.

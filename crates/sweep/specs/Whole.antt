@@ -3,24 +3,31 @@ use Rattle.std.specs.Prelude.{◌≡◌, ℕ, ◌+◌, ◌≤◌, ◌⊎◌, Boo
 use Rattle.protocol.specs.declared.refusal.Refusal.{Refusal}
 use Rattle.protocol.specs.Refusals.{number_of}
 use Rattle.record.specs.declared.Tag.{Tag}
+use Rattle.rows.specs.Filling.{rows_of}
+use Rattle.field.specs.declared.field.Field.{Ghosts as Kind}
 use Rattle.field.specs.declared.hearing.Hearing.{Hearing}
 use Rattle.field.specs.declared.hearing.Hearing.TheVariants.{Silence, Lone, Clash}
 use Rattle.slot.specs.declared.row.SlotRow.{SlotRow}
 use Rattle.slot.specs.declared.ending.Report.{Report}
+use Rattle.slot.specs.declared.lists.Lists.{Lists}
 use Rattle.slot.specs.Countings.{end_number}
 use Rattle.slot.specs.Rules.{Setting, Play, beginning, ended, played, Heard, replayed}
+use Rattle.slot.specs.Runs.{GoesAlong}
 use Rattle.sweep.specs.Fates.{fate_of, due_serials, Distinct, EachOnce}
 use Rattle.sweep.specs.Tallies.{heard_as, enough}
 
--- What a sweep has reported, and the tags that it has left.
+-- What a sweep has reported.
 pub record Outcome : Type 0 where
   pub report : Report
   pub slots : List SlotRow
   pub serials : List (List ℕ)
-  pub tags : List Tag
 
--- The outcome is that of a sweep that has ended by the rule.
-pub record Reported (o : Outcome) (p : Play) : Type 0 where
+-- By its report and its lists.
+abbrev pub outcome_of : Report → Lists → Outcome
+outcome_of report lists = record { report = report; slots = rows_of lists.slots; serials = rows_of lists.serials }
+
+-- The outcome, and the tags that are left, are those of a sweep that has ended by the rule.
+pub record Reported (o : Outcome) (after : List Tag) (p : Play) : Type 0 where
   pub at_end : p.phase ≡ ended (end_number o.report.end)
   pub commands : o.report.counts.commands ≡ p.commands
   pub lone : o.report.counts.lone ≡ heard_as Lone p.slots
@@ -28,35 +35,37 @@ pub record Reported (o : Outcome) (p : Play) : Type 0 where
   pub clash : o.report.counts.clash ≡ heard_as Clash p.slots
   pub slots : o.slots ≡ p.slots
   pub serials : o.serials ≡ p.serials
-  pub tags : o.tags ≡ p.tags
+  pub tags : after ≡ p.tags
 
--- A sweep of some tags: it has gone by the rule, with hearings of which only those of lone replies are free. Where every
--- lone reply is heard as lone, nothing is free: it is what replaying the rule gives.
-pub record Swept (faithful : Bool) (set : Setting) (before : List Tag) (o : Outcome) : Type 0 where
+-- A sweep of a field: one run by the rule, with hearings of which only those of lone replies are free, and with the
+-- field going along. Where every lone reply is heard as lone, nothing is free: it is what replaying the rule gives.
+pub record Swept {F : Type 0} (kind : Kind F) (set : Setting) (before after : F) (o : Outcome) : Type 0 where
   pub hearings : List Hearing
-  pub heard : Heard set hearings (beginning before)
-  pub by_rule : Reported o (played set hearings (beginning before))
-  pub plain : faithful ≡ true → Reported o (replayed set (enough set) (beginning before))
+  pub heard : Heard set hearings (beginning (kind.tags before))
+  pub by_rule : Reported o (kind.tags after) (played set hearings (beginning (kind.tags before)))
+  pub field : GoesAlong kind set hearings (beginning (kind.tags before)) before after
+  pub plain : kind.faithful before ≡ true → Reported o (kind.tags after) (replayed set (enough set) (beginning (kind.tags before)))
   -- in a whole sweep the commands are slots, READs and one
-  pub commands : end_number o.report.end ≡ 0 → o.report.counts.commands ≡ length o.slots + (played set hearings (beginning before)).reads + 1
+  pub commands : end_number o.report.end ≡ 0
+      → o.report.counts.commands ≡ length o.slots + (played set hearings (beginning (kind.tags before))).reads + 1
 
 -- A whole sweep.
-pub record Complete (faithful : Bool) (before : List Tag) (o : Outcome) : Type 0 where
+pub record Complete (faithful : Bool) (before after : List Tag) (o : Outcome) : Type 0 where
   -- each clash adds a group, and each lone or silent slot takes one away
   pub slots : o.report.counts.lone + o.report.counts.silent ≡ o.report.counts.clash + 1
   -- where lone replies are heard as lone, the commands are the slots, one READ for each lone one, and one
   pub commands : faithful ≡ true → o.report.counts.commands ≡ length o.slots + o.report.counts.lone + 1
   -- what is left and reported hangs on no coin and on no hearing, where no serial number is there twice
-  pub tags : Distinct before → o.tags ≡ map fate_of before
+  pub tags : Distinct before → after ≡ map fate_of before
   pub serials : Distinct before → EachOnce o.serials (due_serials before)
 
 -- What holds of every sweep.
-pub record Lawful (faithful : Bool) (set : Setting) (before : List Tag) (o : Outcome) : Type 0 where
+pub record Lawful (faithful : Bool) (set : Setting) (before after : List Tag) (o : Outcome) : Type 0 where
   pub budget : o.report.counts.commands ≤ set.budget
   pub slots : o.report.counts.lone + o.report.counts.silent + o.report.counts.clash ≡ length o.slots
   pub spent : end_number o.report.end ≡ 8 → o.report.counts.commands ≡ set.budget
   pub full : end_number o.report.end ≡ 9 → (length o.slots ≡ set.slot_room) ⊎ (length o.serials ≡ set.serial_room)
-  pub whole : end_number o.report.end ≡ 0 → Complete faithful before o
+  pub whole : end_number o.report.end ≡ 0 → Complete faithful before after o
 
 -- The number of the refusal, if a sweep is refused.
 abbrev pub refused_by : Result Report Refusal → Option ℕ

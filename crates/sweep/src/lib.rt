@@ -2,18 +2,14 @@
 #![tactic(auto)]
 
 ghost use Rattle.std.specs.Prelude.{◌≡◌, IfOk, OnErr, if◌then◌else◌, Some, None};
-ghost use Rattle.rows.specs.Filling.{rows_of};
 ghost use Rattle.slot.specs.Going.{setting, BothBehind, is_recorded};
-ghost use Rattle.slot.specs.Sendings.{Sent};
 ghost use Rattle.sweep.specs.Cases.{EmptySweeps};
 ghost use Rattle.sweep.specs.Listings.{SweepCases, WorkedFates};
-ghost use Rattle.sweep.specs.Whole.{Outcome, Swept, Lawful, refused_by};
+ghost use Rattle.sweep.specs.Whole.{outcome_of, Swept, Lawful, refused_by};
 
-pub mod measuring;
 mod working;
 
 use field::field::Field;
-use measuring::measure;
 use protocol::refusal::Refusal;
 use slot::ending::{End, Report};
 use slot::kinds::Unsplit;
@@ -31,10 +27,11 @@ pub fn sweep<F: Field>(
 ) -> Result<Report, Refusal>
     ensures refusal { refused_by result ≡ (if is_recorded coins.now then None else Some 10) }
     ensures same { OnErr result ((field.new ≡ field.old) × (lists.new ≡ lists.old)) }
-    ensures rule { IfOk result (λ r. Swept F.faithful (setting coins.now budget lists.old) (F.tags field.old) (record { report = r; slots = rows_of lists.new.slots; serials = rows_of lists.new.serials; tags = F.tags field.new })) }
-    ensures laws { IfOk result (λ r. Lawful F.faithful (setting coins.now budget lists.old) (F.tags field.old) (record { report = r; slots = rows_of lists.new.slots; serials = rows_of lists.new.serials; tags = F.tags field.new })) }
+    ensures rule { IfOk result (λ r.
+        Swept F.Field (setting coins.now budget lists.old) field.old field.new (outcome_of r lists.new)) }
+    ensures laws { IfOk result (λ r. Lawful (F.faithful field.old) (setting coins.now budget lists.old)
+        (F.tags field.old) (F.tags field.new) (outcome_of r lists.new)) }
     ensures behind { BothBehind lists.old lists.new }
-    ensures sends { IfOk result (λ r. Sent F.hears 0 r.counts.commands field.old field.new) }
     ensures empty { EmptySweeps }
     ensures worked { SweepCases }
     ensures fates { WorkedFates }
@@ -42,7 +39,6 @@ pub fn sweep<F: Field>(
     if coins.is_empty() || coins.len() > MOST_ROWS {
         return Err(Refusal::Coins);
     }
-    measure(field);
     match work(field, coins, budget, lists) {
         Ok(counts) => Ok(Report {
             end: End::Whole,

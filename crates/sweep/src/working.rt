@@ -1,9 +1,7 @@
 // Going through a sweep, slot by slot.
 ghost use Rattle.std.specs.Prelude.{◌≡◌, ◌≤◌, true, false, length, OnOk};
 ghost use Rattle.rows.specs.Filling.{rows_of};
-ghost use Rattle.slot.specs.Going.{GoesOn, setting, StandsAt, Shows, BothBehind, IsWithin, counts_in, is_recorded};
-ghost use Rattle.slot.specs.Rules.{beginning};
-ghost use Rattle.slot.specs.Sendings.{Sent};
+ghost use Rattle.slot.specs.Going.{setting, at_slot, Begins, Leads, BothBehind, IsWithin, counts_in, is_recorded};
 ghost use Rattle.slot.specs.Slots.{phase_of, stand_of};
 ghost use Rattle.sweep.specs.Steps.{where_gone, where_worked, is_refused, Tallied, HasSent};
 
@@ -21,9 +19,9 @@ pub(crate) fn work<F: Field>(
     lists: &mut Lists<'_>,
 ) -> Result<Counts, Unsplit>
     requires { is_recorded coins.now ≡ true }
-    ensures rule { GoesOn F.faithful (setting coins.now budget lists.old) (λ p. p ≡ beginning (F.tags field.old)) (Shows (where_worked result) lists.new (F.tags field.new)) }
+    ensures rule { Begins F.Field (setting coins.now budget lists.old) (where_worked result)
+        field.old field.new lists.new }
     ensures behind { BothBehind lists.old lists.new }
-    ensures sends { Sent F.hears 0 (counts_in (where_worked result)).commands field.old field.new }
     ensures tally { Tallied (counts_in (where_worked result)) (rows_of lists.new.slots) }
     ensures stopped { is_refused result ≡ false }
 {
@@ -44,12 +42,13 @@ fn go_on<F: Field>(
     lists: &mut Lists<'_>,
 ) -> Result<Left, Unsplit>
     requires { is_recorded coins.now ≡ true }
-    ensures rule { GoesOn F.faithful (setting coins.now (stand_of slot).budget lists.old) (StandsAt (phase_of slot) (stand_of slot) lists.old (F.tags field.old)) (Shows (where_gone result) lists.new (F.tags field.new)) }
+    ensures rule { Leads F.Field coins.now (at_slot (phase_of slot) (stand_of slot)) (where_gone result)
+        field.old field.new lists.old lists.new }
     ensures behind { BothBehind lists.old lists.new }
     ensures within { OnOk result (IsWithin (stand_of slot).budget (where_gone result)) }
-    ensures sends { Sent F.hears (stand_of slot).counts.commands (counts_in (where_gone result)).commands field.old field.new }
     ensures sent { OnOk result (HasSent (stand_of slot).counts.commands (where_gone result)) }
-    ensures tally { Tallied (stand_of slot).counts (rows_of lists.old.slots) → length (rows_of lists.new.slots) ≤ 65535 → Tallied (counts_in (where_gone result)) (rows_of lists.new.slots) }
+    ensures tally { Tallied (stand_of slot).counts (rows_of lists.old.slots) → length (rows_of lists.new.slots) ≤ 65535
+        → Tallied (counts_in (where_gone result)) (rows_of lists.new.slots) }
     ensures stopped { is_refused result ≡ false }
 {
     match slot {

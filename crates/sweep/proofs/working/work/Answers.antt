@@ -13,11 +13,9 @@ use Rattle.slot.specs.declared.kinds.Left.TheVariants as left
 use Rattle.slot.specs.declared.kinds.Unsplit.{Unsplit}
 use Rattle.slot.specs.declared.kinds.Unsplit.TheVariants as unsplit
 use Rattle.slot.specs.Countings.{stop_number, counted}
-use Rattle.slot.specs.Going.{Where, over, counts_in, setting, GoesOn, StandsAt, Shows, IsWithin, no_counts, row_of}
+use Rattle.slot.specs.Going.{Where, at_slot, over, counts_in, setting, IsLed, Leads, IsWithin, no_counts, row_of}
 use Rattle.slot.specs.Slots.{phase_of, stand_of, heard_in}
-use Rattle.slot.specs.Sendings.{Sent}
-use Rattle.slot.proofs.Moves.{Led}
-use Rattle.slot.proofs.Sendings.{joined_sent}
+use Rattle.slot.specs.Rules.{beginning}
 use Rattle.sweep.specs.Steps.{where_gone, where_worked, Tallied, HasSent}
 use Rattle.sweep.proofs.Walks.{come_on, behind_on, few}
 use Rattle.sweep.proofs.working.work.Goals as goal
@@ -41,9 +39,9 @@ first_tally Lone row e = record { lone = rw e refl; silent = rw e refl; clash = 
 first_tally Clash row e = record { lone = rw e refl; silent = rw e refl; clash = rw e refl }
 
 pub returns-in_err-slot-clause-rule : goal.returns-in_err-slot-clause-rule
-returns-in_err-slot-clause-rule g c p s =
-    subst (λ (w : Where). Led g.F.Field.faithful (setting c.args.coins.now c.args.budget c.args.lists.now) p w c.open.new.lists (g.F.Field.tags c.open.new.field))
-    (stop_handed c.from_residual.result c.in_err-slot.field-0.0 c.from_residual.ensures.0 c.from_residual.ensures.1) (c.in_err-slot.ensures.rule c.args.coins.now p s)
+returns-in_err-slot-clause-rule g c =
+    subst (λ (w : Where). IsLed g.F.Field (setting c.args.coins.now c.args.budget c.args.lists.now) (beginning (g.F.Field.tags c.args.field.now)) w c.args.field.now c.open.new.field c.open.new.lists)
+    (stop_handed c.from_residual.result c.in_err-slot.field-0.0 c.from_residual.ensures.0 c.from_residual.ensures.1) (c.in_err-slot.ensures.rule c.args.coins.now)
 
 pub loop-next-init : goal.loop-next-init
 loop-next-init g c =
@@ -51,7 +49,6 @@ loop-next-init g c =
       rule = c.in_ok-slot.ensures.rule c.args.coins.now;
       behind = c.in_ok-slot.ensures.behind;
       same = c.in_ok-slot.ensures.within.0;
-      sends = c.in_ok-slot.ensures.sends;
       within = c.in_ok-slot.ensures.within.1;
       tally = subst (λ (k : Counts). Tallied k (rows_of c.open.new.lists.slots)) (sym c.in_ok-slot.ensures.counts)
           (subst (λ (rows : List SlotRow). Tallied (counted (heard_in c.in_ok-slot.slot) no_counts) rows) (sym c.in_ok-slot.ensures.slots)
@@ -59,19 +56,19 @@ loop-next-init g c =
     }
 
 pub returns-in_err-next-clause-rule : goal.returns-in_err-next-clause-rule
-returns-in_err-next-clause-rule g c p s =
-    subst (λ (w : Where). Led g.F.Field.faithful (setting c.args.coins.now c.args.budget c.args.lists.now) p w c.go_on.new.lists (g.F.Field.tags c.go_on.new.field))
+returns-in_err-next-clause-rule g c =
+    subst (λ (w : Where). IsLed g.F.Field (setting c.args.coins.now c.args.budget c.args.lists.now) (beginning (g.F.Field.tags c.args.field.now)) w c.args.field.now c.go_on.new.field c.go_on.new.lists)
     (gone_handed c.from_residual-in_err-next.result c.in_err-next.field-0.0 c.from_residual-in_err-next.ensures.0 c.from_residual-in_err-next.ensures.1)
-    (come_on g.F.Field.faithful c.args.coins.now c.args.budget c.args.lists.now (g.F.Field.tags c.args.field.now) (phase_of c.loop-next.slot) (stand_of c.loop-next.slot) c.loop-next.lists (g.F.Field.tags c.loop-next.field) c.loop-next.invariant.rule c.loop-next.invariant.same c.loop-next.invariant.behind (where_gone (Err c.in_err-next.field-0.0)) c.go_on.new.lists (g.F.Field.tags c.go_on.new.field) c.in_err-next.ensures.rule p s)
+    (come_on g.F.Field c.args.coins.now c.args.budget c.args.lists.now c.args.field.now (phase_of c.loop-next.slot) (stand_of c.loop-next.slot) c.loop-next.lists c.loop-next.field c.loop-next.invariant.rule c.loop-next.invariant.same c.loop-next.invariant.behind (where_gone (Err c.in_err-next.field-0.0)) c.go_on.new.lists c.go_on.new.field c.in_err-next.ensures.rule)
 
 pub returns-in_err-next-clause-behind : goal.returns-in_err-next-clause-behind
 returns-in_err-next-clause-behind g c =
-    behind_on g.F.Field.faithful c.args.coins.now c.args.budget c.args.lists.now (g.F.Field.tags c.args.field.now) (phase_of c.loop-next.slot) (stand_of c.loop-next.slot) c.loop-next.lists (g.F.Field.tags c.loop-next.field) c.loop-next.invariant.rule c.loop-next.invariant.same c.loop-next.invariant.behind (where_gone (Err c.in_err-next.field-0.0)) c.go_on.new.lists (g.F.Field.tags c.go_on.new.field) c.in_err-next.ensures.rule c.in_err-next.ensures.behind
+    behind_on g.F.Field c.args.coins.now c.args.budget c.args.lists.now c.args.field.now (phase_of c.loop-next.slot) (stand_of c.loop-next.slot) c.loop-next.lists c.loop-next.field c.loop-next.invariant.rule c.loop-next.invariant.same c.loop-next.invariant.behind (where_gone (Err c.in_err-next.field-0.0)) c.go_on.new.lists c.go_on.new.field c.in_err-next.ensures.rule c.in_err-next.ensures.behind
 
 pub returns-in_err-next-clause-tally : goal.returns-in_err-next-clause-tally
 returns-in_err-next-clause-tally g c =
-    let come = come_on g.F.Field.faithful c.args.coins.now c.args.budget c.args.lists.now (g.F.Field.tags c.args.field.now) (phase_of c.loop-next.slot) (stand_of c.loop-next.slot) c.loop-next.lists (g.F.Field.tags c.loop-next.field) c.loop-next.invariant.rule c.loop-next.invariant.same c.loop-next.invariant.behind (where_gone (Err c.in_err-next.field-0.0)) c.go_on.new.lists (g.F.Field.tags c.go_on.new.field) c.in_err-next.ensures.rule in
-    let short : length (rows_of c.go_on.new.lists.slots) ≤ 65535 = omega (arith, few g.F.Field.faithful c.args.coins.now c.args.budget c.args.lists.now (g.F.Field.tags c.args.field.now) (where_gone (Err c.in_err-next.field-0.0)) c.go_on.new.lists (g.F.Field.tags c.go_on.new.field) come, c.ranges.budget.fits) in
+    let come = come_on g.F.Field c.args.coins.now c.args.budget c.args.lists.now c.args.field.now (phase_of c.loop-next.slot) (stand_of c.loop-next.slot) c.loop-next.lists c.loop-next.field c.loop-next.invariant.rule c.loop-next.invariant.same c.loop-next.invariant.behind (where_gone (Err c.in_err-next.field-0.0)) c.go_on.new.lists c.go_on.new.field c.in_err-next.ensures.rule in
+    let short : length (rows_of c.go_on.new.lists.slots) ≤ 65535 = omega (arith, few g.F.Field c.args.coins.now c.args.budget c.args.lists.now c.args.field.now (where_gone (Err c.in_err-next.field-0.0)) c.go_on.new.field c.go_on.new.lists come, c.ranges.budget.fits) in
     subst (λ (w : Where). Tallied (counts_in w) (rows_of c.go_on.new.lists.slots))
     (gone_handed c.from_residual-in_err-next.result c.in_err-next.field-0.0 c.from_residual-in_err-next.ensures.0 c.from_residual-in_err-next.ensures.1)
     (c.in_err-next.ensures.tally c.loop-next.invariant.tally short)
@@ -86,49 +83,31 @@ loop-next-smaller g c =
 
 pub loop-next-preserved : goal.loop-next-preserved
 loop-next-preserved g c =
-    let next = (subst (λ (l : Left). GoesOn g.F.Field.faithful (setting c.args.coins.now (stand_of c.loop-next.slot).budget c.loop-next.lists) (StandsAt (phase_of c.loop-next.slot) (stand_of c.loop-next.slot) c.loop-next.lists (g.F.Field.tags c.loop-next.field)) (Shows (where_gone (Ok l)) c.go_on.new.lists (g.F.Field.tags c.go_on.new.field))) c.in-Next.is c.in_ok-next.ensures.rule) in
-    let come = come_on g.F.Field.faithful c.args.coins.now c.args.budget c.args.lists.now (g.F.Field.tags c.args.field.now) (phase_of c.loop-next.slot) (stand_of c.loop-next.slot) c.loop-next.lists (g.F.Field.tags c.loop-next.field) c.loop-next.invariant.rule c.loop-next.invariant.same c.loop-next.invariant.behind (where_gone (Ok (left.Next c.in-Next.next))) c.go_on.new.lists (g.F.Field.tags c.go_on.new.field) next in
+    let next = (subst (λ (l : Left). Leads g.F.Field c.args.coins.now (at_slot (phase_of c.loop-next.slot) (stand_of c.loop-next.slot)) (where_gone (Ok l)) c.loop-next.field c.go_on.new.field c.loop-next.lists c.go_on.new.lists) c.in-Next.is c.in_ok-next.ensures.rule) in
+    let come = come_on g.F.Field c.args.coins.now c.args.budget c.args.lists.now c.args.field.now (phase_of c.loop-next.slot) (stand_of c.loop-next.slot) c.loop-next.lists c.loop-next.field c.loop-next.invariant.rule c.loop-next.invariant.same c.loop-next.invariant.behind (where_gone (Ok (left.Next c.in-Next.next))) c.go_on.new.lists c.go_on.new.field next in
     let within = subst (λ (l : Left). IsWithin (stand_of c.loop-next.slot).budget (where_gone (Ok l))) c.in-Next.is c.in_ok-next.ensures.within in
-    let short : length (rows_of c.go_on.new.lists.slots) ≤ 65535 = omega (arith, few g.F.Field.faithful c.args.coins.now c.args.budget c.args.lists.now (g.F.Field.tags c.args.field.now) (where_gone (Ok (left.Next c.in-Next.next))) c.go_on.new.lists (g.F.Field.tags c.go_on.new.field) come, c.ranges.budget.fits) in
+    let short : length (rows_of c.go_on.new.lists.slots) ≤ 65535 = omega (arith, few g.F.Field c.args.coins.now c.args.budget c.args.lists.now c.args.field.now (where_gone (Ok (left.Next c.in-Next.next))) c.go_on.new.field c.go_on.new.lists come, c.ranges.budget.fits) in
     record {
       rule = come;
-      behind = behind_on g.F.Field.faithful c.args.coins.now c.args.budget c.args.lists.now (g.F.Field.tags c.args.field.now) (phase_of c.loop-next.slot) (stand_of c.loop-next.slot) c.loop-next.lists (g.F.Field.tags c.loop-next.field) c.loop-next.invariant.rule c.loop-next.invariant.same c.loop-next.invariant.behind (where_gone (Ok (left.Next c.in-Next.next))) c.go_on.new.lists (g.F.Field.tags c.go_on.new.field) next c.in_ok-next.ensures.behind;
+      behind = behind_on g.F.Field c.args.coins.now c.args.budget c.args.lists.now c.args.field.now (phase_of c.loop-next.slot) (stand_of c.loop-next.slot) c.loop-next.lists c.loop-next.field c.loop-next.invariant.rule c.loop-next.invariant.same c.loop-next.invariant.behind (where_gone (Ok (left.Next c.in-Next.next))) c.go_on.new.lists c.go_on.new.field next c.in_ok-next.ensures.behind;
       same = within.0 ∙ c.loop-next.invariant.same;
-      sends = joined_sent g.F.Field.hears 0 (stand_of c.loop-next.slot).counts.commands _ _ _ _ c.loop-next.invariant.sends
-          (subst (λ (l : Left). Sent g.F.Field.hears (stand_of c.loop-next.slot).counts.commands (counts_in (where_gone (Ok l))).commands c.loop-next.field c.go_on.new.field) c.in-Next.is c.in_ok-next.ensures.sends);
       within = omega (arith, within.1, c.loop-next.invariant.same);
       tally = subst (λ (l : Left). Tallied (counts_in (where_gone (Ok l))) (rows_of c.go_on.new.lists.slots)) c.in-Next.is (c.in_ok-next.ensures.tally c.loop-next.invariant.tally short);
     }
 
 pub returns-in-Whole-clause-rule : goal.returns-in-Whole-clause-rule
 returns-in-Whole-clause-rule g c =
-    come_on g.F.Field.faithful c.args.coins.now c.args.budget c.args.lists.now (g.F.Field.tags c.args.field.now) (phase_of c.loop-next.slot) (stand_of c.loop-next.slot) c.loop-next.lists (g.F.Field.tags c.loop-next.field) c.loop-next.invariant.rule c.loop-next.invariant.same c.loop-next.invariant.behind (where_gone (Ok (left.Whole c.in-Whole.counts))) c.go_on.new.lists (g.F.Field.tags c.go_on.new.field)
-    (subst (λ (l : Left). GoesOn g.F.Field.faithful (setting c.args.coins.now (stand_of c.loop-next.slot).budget c.loop-next.lists) (StandsAt (phase_of c.loop-next.slot) (stand_of c.loop-next.slot) c.loop-next.lists (g.F.Field.tags c.loop-next.field)) (Shows (where_gone (Ok l)) c.go_on.new.lists (g.F.Field.tags c.go_on.new.field))) c.in-Whole.is c.in_ok-next.ensures.rule)
+    come_on g.F.Field c.args.coins.now c.args.budget c.args.lists.now c.args.field.now (phase_of c.loop-next.slot) (stand_of c.loop-next.slot) c.loop-next.lists c.loop-next.field c.loop-next.invariant.rule c.loop-next.invariant.same c.loop-next.invariant.behind (where_gone (Ok (left.Whole c.in-Whole.counts))) c.go_on.new.lists c.go_on.new.field
+    (subst (λ (l : Left). Leads g.F.Field c.args.coins.now (at_slot (phase_of c.loop-next.slot) (stand_of c.loop-next.slot)) (where_gone (Ok l)) c.loop-next.field c.go_on.new.field c.loop-next.lists c.go_on.new.lists) c.in-Whole.is c.in_ok-next.ensures.rule)
 
 pub returns-in-Whole-clause-behind : goal.returns-in-Whole-clause-behind
 returns-in-Whole-clause-behind g c =
-    behind_on g.F.Field.faithful c.args.coins.now c.args.budget c.args.lists.now (g.F.Field.tags c.args.field.now) (phase_of c.loop-next.slot) (stand_of c.loop-next.slot) c.loop-next.lists (g.F.Field.tags c.loop-next.field) c.loop-next.invariant.rule c.loop-next.invariant.same c.loop-next.invariant.behind (where_gone (Ok (left.Whole c.in-Whole.counts))) c.go_on.new.lists (g.F.Field.tags c.go_on.new.field)
-    (subst (λ (l : Left). GoesOn g.F.Field.faithful (setting c.args.coins.now (stand_of c.loop-next.slot).budget c.loop-next.lists) (StandsAt (phase_of c.loop-next.slot) (stand_of c.loop-next.slot) c.loop-next.lists (g.F.Field.tags c.loop-next.field)) (Shows (where_gone (Ok l)) c.go_on.new.lists (g.F.Field.tags c.go_on.new.field))) c.in-Whole.is c.in_ok-next.ensures.rule) c.in_ok-next.ensures.behind
+    behind_on g.F.Field c.args.coins.now c.args.budget c.args.lists.now c.args.field.now (phase_of c.loop-next.slot) (stand_of c.loop-next.slot) c.loop-next.lists c.loop-next.field c.loop-next.invariant.rule c.loop-next.invariant.same c.loop-next.invariant.behind (where_gone (Ok (left.Whole c.in-Whole.counts))) c.go_on.new.lists c.go_on.new.field
+    (subst (λ (l : Left). Leads g.F.Field c.args.coins.now (at_slot (phase_of c.loop-next.slot) (stand_of c.loop-next.slot)) (where_gone (Ok l)) c.loop-next.field c.go_on.new.field c.loop-next.lists c.go_on.new.lists) c.in-Whole.is c.in_ok-next.ensures.rule) c.in_ok-next.ensures.behind
 
 pub returns-in-Whole-clause-tally : goal.returns-in-Whole-clause-tally
 returns-in-Whole-clause-tally g c =
-    let come = come_on g.F.Field.faithful c.args.coins.now c.args.budget c.args.lists.now (g.F.Field.tags c.args.field.now) (phase_of c.loop-next.slot) (stand_of c.loop-next.slot) c.loop-next.lists (g.F.Field.tags c.loop-next.field) c.loop-next.invariant.rule c.loop-next.invariant.same c.loop-next.invariant.behind (where_gone (Ok (left.Whole c.in-Whole.counts))) c.go_on.new.lists (g.F.Field.tags c.go_on.new.field)
-    (subst (λ (l : Left). GoesOn g.F.Field.faithful (setting c.args.coins.now (stand_of c.loop-next.slot).budget c.loop-next.lists) (StandsAt (phase_of c.loop-next.slot) (stand_of c.loop-next.slot) c.loop-next.lists (g.F.Field.tags c.loop-next.field)) (Shows (where_gone (Ok l)) c.go_on.new.lists (g.F.Field.tags c.go_on.new.field))) c.in-Whole.is c.in_ok-next.ensures.rule) in
-    let short : length (rows_of c.go_on.new.lists.slots) ≤ 65535 = omega (arith, few g.F.Field.faithful c.args.coins.now c.args.budget c.args.lists.now (g.F.Field.tags c.args.field.now) (where_gone (Ok (left.Whole c.in-Whole.counts))) c.go_on.new.lists (g.F.Field.tags c.go_on.new.field) come, c.ranges.budget.fits) in
+    let come = come_on g.F.Field c.args.coins.now c.args.budget c.args.lists.now c.args.field.now (phase_of c.loop-next.slot) (stand_of c.loop-next.slot) c.loop-next.lists c.loop-next.field c.loop-next.invariant.rule c.loop-next.invariant.same c.loop-next.invariant.behind (where_gone (Ok (left.Whole c.in-Whole.counts))) c.go_on.new.lists c.go_on.new.field
+    (subst (λ (l : Left). Leads g.F.Field c.args.coins.now (at_slot (phase_of c.loop-next.slot) (stand_of c.loop-next.slot)) (where_gone (Ok l)) c.loop-next.field c.go_on.new.field c.loop-next.lists c.go_on.new.lists) c.in-Whole.is c.in_ok-next.ensures.rule) in
+    let short : length (rows_of c.go_on.new.lists.slots) ≤ 65535 = omega (arith, few g.F.Field c.args.coins.now c.args.budget c.args.lists.now c.args.field.now (where_gone (Ok (left.Whole c.in-Whole.counts))) c.go_on.new.field c.go_on.new.lists come, c.ranges.budget.fits) in
     subst (λ (l : Left). Tallied (counts_in (where_gone (Ok l))) (rows_of c.go_on.new.lists.slots)) c.in-Whole.is (c.in_ok-next.ensures.tally c.loop-next.invariant.tally short)
-
-pub returns-in_err-slot-clause-sends : goal.returns-in_err-slot-clause-sends
-returns-in_err-slot-clause-sends g c =
-    subst (λ (w : Where). Sent g.F.Field.hears 0 (counts_in w).commands c.args.field.now c.open.new.field)
-    (stop_handed c.from_residual.result c.in_err-slot.field-0.0 c.from_residual.ensures.0 c.from_residual.ensures.1) c.in_err-slot.ensures.sends
-
-pub returns-in_err-next-clause-sends : goal.returns-in_err-next-clause-sends
-returns-in_err-next-clause-sends g c =
-    subst (λ (w : Where). Sent g.F.Field.hears 0 (counts_in w).commands c.args.field.now c.go_on.new.field)
-    (gone_handed c.from_residual-in_err-next.result c.in_err-next.field-0.0 c.from_residual-in_err-next.ensures.0 c.from_residual-in_err-next.ensures.1)
-    (joined_sent g.F.Field.hears 0 (stand_of c.loop-next.slot).counts.commands _ _ _ _ c.loop-next.invariant.sends c.in_err-next.ensures.sends)
-
-pub returns-in-Whole-clause-sends : goal.returns-in-Whole-clause-sends
-returns-in-Whole-clause-sends g c =
-    joined_sent g.F.Field.hears 0 (stand_of c.loop-next.slot).counts.commands _ _ _ _ c.loop-next.invariant.sends
-    (subst (λ (l : Left). Sent g.F.Field.hears (stand_of c.loop-next.slot).counts.commands (counts_in (where_gone (Ok l))).commands c.loop-next.field c.go_on.new.field) c.in-Whole.is c.in_ok-next.ensures.sends)

@@ -1,18 +1,15 @@
 use Rattle.std.proofs.Common.{◌≡◌, ◌≤◌, ◌-◌}
 use Rattle.rows.specs.Filling.{rows_of}
-use Rattle.slot.specs.Going.{GoesOn, setting, StandsAt, BothBehind}
-use Rattle.slot.specs.Rules.{beginning}
-use Rattle.slot.specs.Sendings.{Sent}
+use Rattle.slot.specs.Going.{setting, at_slot, Begins, BothBehind}
 use Rattle.slot.specs.Slots.{phase_of, stand_of}
 use Rattle.sweep.specs.Steps.{Tallied}
 use Rattle.sweep.proofs.working.work.Given as goal
 
 abbrev pub invariant-loop-next : goal.invariant-loop-next
 invariant-loop-next g l = record {
-  rule : GoesOn g.F.Field.faithful (setting l.fn.coins l.fn.budget l.fn.lists) (λ p. p ≡ beginning (g.F.Field.tags l.fn.field)) (StandsAt (phase_of l.slot) (stand_of l.slot) l.lists (g.F.Field.tags l.field));
+  rule : Begins g.F.Field (setting l.fn.coins l.fn.budget l.fn.lists) (at_slot (phase_of l.slot) (stand_of l.slot)) l.fn.field l.field l.lists;
   behind : BothBehind l.fn.lists l.lists;
   same : (stand_of l.slot).budget ≡ l.fn.budget;
-  sends : Sent g.F.Field.hears 0 (stand_of l.slot).counts.commands l.fn.field l.field;
   within : (stand_of l.slot).counts.commands ≤ l.fn.budget;
   tally : Tallied (stand_of l.slot).counts (rows_of l.lists.slots);
 }
