@@ -1,11 +1,11 @@
 -- What a frame is to a tag: a command, with the tag's serial number or another, at an address. Assumes nothing.
-use Rattle.std.specs.Prelude.{ℕ, Bool, true, false, ◌&&◌, List, [], ◌==◌}
+use Rattle.std.specs.Prelude.{ℕ, Bool, true, false, ◌&&◌, ◌==◌}
 use Rattle.protocol.specs.declared.command.Command.{Command}
 use Rattle.protocol.specs.declared.command.Command.TheVariants.{Lock, Write}
 use Rattle.protocol.specs.declared.command.Parameter.TheVariants.{Serial, Address}
 use Rattle.protocol.specs.Commands.{code_of}
-use Rattle.frame.specs.Openings.{Opening, refused, opened}
-use Rattle.frame.specs.Parts.{Part, bytes_of}
+use Rattle.frame.specs.Openings.{Opening, refused, opened, parts_in}
+use Rattle.frame.specs.Parts.{bytes_of}
 use Rattle.record.specs.declared.Tag.{Tag}
 use Rattle.tag.specs.Orders.{byte_of}
 use Rattle.tag.specs.Steps.{is_meant, is_writable, is_lockable, if_inventoried}
@@ -14,11 +14,6 @@ use Rattle.tag.specs.Steps.{is_meant, is_writable, is_lockable, if_inventoried}
 abbrev pub is_a : Command → Opening → Bool
 is_a c (refused n) = false
 is_a c (opened code d parts) = code_of d == code_of c
-
--- Its parameters, none if it did not open.
-abbrev pub parts_in : Opening → List Part
-parts_in (refused n) = []
-parts_in (opened code c parts) = parts
 
 abbrev pub address_in : Opening → ℕ
 address_in frame = byte_of Address (parts_in frame)

@@ -1,12 +1,12 @@
 -- What a frame changes in the memory of a tag, address by address. Assumes nothing.
 use Rattle.std.specs.Prelude.{◌≡◌, ℕ, ◌+◌, ◌-◌, Bool, cond, ◌&&◌, ◌||◌, ◌==◌, nat_le, nat_lt, slice_index}
 use Rattle.protocol.specs.declared.command.Parameter.TheVariants.{Mask, Data}
-use Rattle.frame.specs.Openings.{Opening}
+use Rattle.frame.specs.Openings.{Opening, parts_in}
 use Rattle.frame.specs.Parts.{bytes_of}
 use Rattle.record.specs.declared.Tag.{Tag}
 use Rattle.record.specs.Masks.{selects}
 use Rattle.record.specs.Records.{byte_at, locked_at}
-use Rattle.tag.specs.Frames.{parts_in, address_in, stores_in, locks_in}
+use Rattle.tag.specs.Frames.{address_in, stores_in, locks_in}
 use Rattle.tag.specs.Orders.{byte_of}
 
 -- Whether an address is one of the four from another on, and selected by a mask.
