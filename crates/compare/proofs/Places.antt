@@ -6,7 +6,8 @@ use Rattle.std.specs.Option.{option_eq}
 use Rattle.std.proofs.lemmas.List.FromFn.{length-range_with_len, get_or-range_with_len}
 use Rattle.std.proofs.lemmas.List.Sums.{AllPass-from_list_all, list_all-from_AllPass}
 use Rattle.record.specs.declared.Tag.{Tag}
-use Rattle.record.specs.Alike.{alike, alike_Decides}
+use Rattle.record.specs.Alike.{alike}
+use Rattle.record.proofs.Likeness.{alike_Decides}
 use Rattle.compare.specs.Places.{alike_at}
 
 -- Two tags that may be there are compared by their records.

@@ -1,5 +1,5 @@
 -- Opening: what a frame says, and which refusal meets what is no frame. Assumes nothing.
-use Rattle.std.specs.Prelude.{ℕ, ◌-◌, Bool, cond, List, length, take, drop, Some, None, Ok, Err, Option, Result, ◌==◌, nat_lt, slice_index}
+use Rattle.std.specs.Prelude.{ℕ, ◌-◌, Bool, cond, List, [], length, take, drop, Some, None, Ok, Err, Option, Result, ◌==◌, nat_lt, slice_index}
 use Rattle.std.specs.Str.{bytes_eq}
 use Rattle.protocol.specs.declared.command.Command.{Command}
 use Rattle.frame.specs.declared.opening.Frame.{Frame}
@@ -42,3 +42,8 @@ opening frame =
 abbrev pub seen : Result Frame Refusal → Opening
 seen (Ok f) = opened f.code (command_of f.request) (parts_of f.request)
 seen (Err e) = refused (number_of e)
+
+-- The parameters of a frame, none if it did not open.
+abbrev pub parts_in : Opening → List Part
+parts_in (refused n) = []
+parts_in (opened code c parts) = parts

@@ -4,6 +4,7 @@ ghost use Rattle.crc.specs.Check.{sent};
 ghost use Rattle.frame.specs.Cases.{ShortReplies};
 ghost use Rattle.frame.specs.Listings.{LaidBytes};
 ghost use Rattle.frame.specs.Writing.{Put, laid};
+ghost use Rattle.protocol.specs.Refusals.{number_of};
 
 use crate::writer::Writer;
 use protocol::refusal::Refusal;
@@ -13,7 +14,7 @@ impl<'a> Writer<'a> {
     #[tactic(auto, using(crate::proofs::Listed::laid_bytes))]
     pub fn put(&mut self, bytes: &[u8]) -> Result<(), Refusal>
         ensures put { Put bytes.now self.old self.new (is_ok result) }
-        ensures refusal { IfErr result (λ e. e ≡ Refusal.Buffer) }
+        ensures refusal { IfErr result (λ e. number_of e ≡ 5) }
         ensures worked { LaidBytes }
     {
         let start = self.filled;
@@ -30,7 +31,7 @@ impl<'a> Writer<'a> {
     #[tactic(auto, using(crate::proofs::Limits::short_replies))]
     pub fn seal(&mut self) -> Result<(), Refusal>
         ensures put { Put (sent (0xffff - self.old.register)) self.old self.new (is_ok result) }
-        ensures refusal { IfErr result (λ e. e ≡ Refusal.Buffer) }
+        ensures refusal { IfErr result (λ e. number_of e ≡ 5) }
         ensures replies { ShortReplies }
     {
         let value = self.register.check_value();

@@ -1,7 +1,7 @@
 // What the generator's panel, which is C, calls: the check value, and the opening of a frame.
 #![tactic(auto)]
 
-ghost use Rattle.std.specs.Prelude.{◌≡◌, length, MatchResult};
+ghost use Rattle.std.specs.Prelude.{◌≡◌, length, MatchResult, OnOk};
 ghost use Rattle.std.proofs.Props.{props};
 ghost use Rattle.crc.specs.Check.{check_value};
 ghost use Rattle.frame.specs.Openings.{opening};
@@ -9,7 +9,7 @@ ghost use Rattle.frame.specs.Parts.{span_of};
 ghost use Rattle.frame.specs.Requests.{parts_of};
 ghost use Rattle.protocol.specs.Refusals.{number_of};
 ghost use Rattle.panel.specs.Listings.{ShownFrames};
-ghost use Rattle.panel.specs.Shown.{Small, offset_in, length_in, shown_of, answering, leaving};
+ghost use Rattle.panel.specs.Shown.{Small, Selects, offset_in, length_in, shown_of, answering, leaving};
 
 use crc::check_value;
 use frame::opening::{Frame, open};
@@ -34,6 +34,7 @@ pub extern "C" fn nolbashi_check_value(message: &[u8]) -> u16
 pub extern "C" fn nolbashi_open(frame: &[u8], shown: &mut [u8]) -> u8
     ensures answer { result ≡ answering (opening frame.now) (length shown.old) }
     ensures shown { shown.new ≡ leaving (opening frame.now) shown.old }
+    ensures selects { result ≡ 0 → Selects shown.new frame.now }
     ensures worked { ShownFrames }
 {
     // A number, and a frame beside a buffer, since that is what C has.
@@ -42,8 +43,11 @@ pub extern "C" fn nolbashi_open(frame: &[u8], shown: &mut [u8]) -> u8
 
 // Shows what a frame holds, or tells why not. Frame and buffer are two parameters as in C.
 fn show(frame: &[u8], shown: &mut [u8]) -> Result<(), Refusal>
-    ensures answer { MatchResult result (λ _. answering (opening frame.now) (length shown.old) ≡ 0) (λ e. answering (opening frame.now) (length shown.old) ≡ number_of e) }
+    ensures answer { MatchResult result
+        (λ _. answering (opening frame.now) (length shown.old) ≡ 0)
+        (λ e. answering (opening frame.now) (length shown.old) ≡ number_of e) }
     ensures shown { shown.new ≡ leaving (opening frame.now) shown.old }
+    ensures selects { OnOk result (Selects shown.new frame.now) }
 {
     let opened = Shown {
         frame: open(frame)?,

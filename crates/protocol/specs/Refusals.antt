@@ -13,6 +13,11 @@ number_of Crowd = 6
 number_of Coins = 10
 number_of Period = 11
 
+-- 0, or the number of a refusal.
+abbrev pub refused_by : {T : Type 0} → Result T Refusal → ℕ
+refused_by (Ok x) = 0
+refused_by (Err e) = number_of e
+
 pub data Answer : Type 0 where
   told : ℕ → Answer
   -- by the refusal's number

@@ -1,3 +1,4 @@
+pub mod Likeness
 pub mod Listed
 pub mod Places
 pub mod Sizes

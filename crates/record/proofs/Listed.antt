@@ -1,5 +1,4 @@
 -- The listings, computed. Assumes nothing.
-use Rattle.record.specs.Alike.{alike}
 use Rattle.record.specs.Listings.{NewTags, Addresses, Selections, Comparisons, Storings, Marks, States, Gaps, Likenesses}
 use Rattle.record.specs.Masks.{stored}
 
@@ -36,5 +35,5 @@ unfolding Gaps
 gaps = search
 
 pub likenesses : Likenesses
-unfolding Likenesses alike
+unfolding Likenesses
 likenesses = search

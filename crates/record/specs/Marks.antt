@@ -1,10 +1,10 @@
 -- Write marks by their numbers. Assumes nothing.
-use Rattle.std.specs.Prelude.{◌≡◌, ◌<◌, ℕ, Result, MatchResult}
+use Rattle.std.specs.Prelude.{◌≡◌, ◌<◌, ℕ, codes, Result, MatchResult}
 use Rattle.record.specs.declared.WriteMark.{WriteMark}
 use Rattle.record.specs.declared.unknown.Unknown.{Unknown}
-use Rattle.record.specs.declared.unknown.Unknown.TheVariants.{Mark}
+use Rattle.record.specs.Names.{unknown_text}
 use Rattle.record.specs.Records.{mark_number}
 
--- What reading a number gives: the mark that has it, or an error where none has.
+-- What reading a number gives: the mark that has it, or an error, by its text, where none has.
 abbrev pub Marked : ℕ → Result WriteMark Unknown → Type 0
-Marked number r = MatchResult r (λ mark. mark_number mark ≡ number) (λ e. (e ≡ Mark) × (2 < number))
+Marked number r = MatchResult r (λ mark. mark_number mark ≡ number) (λ e. (unknown_text e ≡ codes "no write mark") × (2 < number))

@@ -10,11 +10,11 @@ state_name Ready = codes "READY"
 state_name Singulation = codes "SINGULATION"
 state_name Inventoried = codes "INVENTORIED"
 
--- What reading a text gives: the state that it names, or an error where it names none.
-abbrev pub Named : List ℕ → Result State Unknown → Type 0
-Named text r =
-    MatchResult r (λ state. state_name state ≡ text) (λ e. (e ≡ unknown.State) × ((state : State) → state_name state ≢ text))
-
 abbrev pub unknown_text : Unknown → List ℕ
 unknown_text unknown.State = codes "no state"
 unknown_text unknown.Mark = codes "no write mark"
+
+-- What reading a text gives: the state that it names, or an error, by its text, where it names none.
+abbrev pub Named : List ℕ → Result State Unknown → Type 0
+Named text r =
+    MatchResult r (λ state. state_name state ≡ text) (λ e. (unknown_text e ≡ codes "no state") × ((state : State) → state_name state ≢ text))

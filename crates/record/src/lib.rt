@@ -2,9 +2,11 @@
 #![tactic(auto)]
 
 ghost use Rattle.std.specs.Prelude.{◌≡◌, ◌-◌, Decides, slice_index_or};
+ghost use Rattle.std.specs.Cmp.{partial_equiv_from_equiv, and_equiv, on_equiv, nat_eq_equiv, bool_eq_equiv};
+ghost use Rattle.std.specs.Cmp.Lexicographic.{lists_equiv, options_equiv};
 ghost use Rattle.std.specs.Str.{bytes_eq};
 ghost use Rattle.record.specs.Records.{byte_at, locked_at, serial_of, mark_number, fallen, is_write_ok, new_tag};
-ghost use Rattle.record.specs.Alike.{alike, alike_partial_equivalence};
+ghost use Rattle.record.specs.Alike.{alike, state_number};
 ghost use Rattle.record.specs.Listings.{NewTags, Addresses, Marks, Likenesses};
 
 pub mod gap;
@@ -148,9 +150,16 @@ impl Tag {
 impl PartialEq for Tag {
     ghost eq = { alike };
 
-    ghost laws = { alike_partial_equivalence };
+    ghost laws = { partial_equiv_from_equiv
+        (and_equiv (on_equiv (λ t. t.memory) (lists_equiv nat_eq_equiv))
+        (and_equiv (on_equiv (λ t. t.locks) (lists_equiv bool_eq_equiv))
+        (and_equiv (on_equiv (λ t. state_number t.state) nat_eq_equiv)
+        (and_equiv (on_equiv (λ t. t.identified) bool_eq_equiv)
+        (and_equiv (on_equiv (λ t. t.counter) nat_eq_equiv)
+        (and_equiv (on_equiv (λ t. mark_number t.mark) nat_eq_equiv)
+        (on_equiv (λ t. t.permission) (options_equiv nat_eq_equiv)))))))) };
 
-    #[tactic(auto, unfolding(crate::specs::Alike::alike), using(crate::proofs::Listed::likenesses))]
+    #[tactic(auto, using(crate::proofs::Listed::likenesses))]
     fn eq(&self, other: &Tag) -> bool
         ensures value { result ≡ alike self.now other.now }
         ensures alike { Decides result (self.now ≡ other.now) }

@@ -18,7 +18,8 @@ use Rattle.record.proofs.Sizes.{length-stored}
 use Rattle.tag.specs.Memories.{is_reached, stores_at, locks_at, Accounted}
 use Rattle.tag.specs.Orders.{damaged, unknown, byte_of}
 use Rattle.record.specs.Records.{locked_at, is_write_ok, in_state, permitting, marking, remembering, locking}
-use Rattle.tag.specs.Steps.{met, moved, obeyed, stepped, if_singulated, if_inventoried, is_meant, is_writable, is_lockable}
+use Rattle.tag.proofs.Branches.{either, singulated}
+use Rattle.tag.specs.Steps.{met, moved, obeyed, stepped, if_inventoried, is_meant, is_writable, is_lockable}
 
 -- Two records with the same memory and the same locks.
 record Same (t u : Tag) : Type 0 where
@@ -28,18 +29,12 @@ record Same (t u : Tag) : Type 0 where
 still : (t : Tag) → (u : Tag) → u.memory ≡ t.memory → u.locks ≡ t.locks → Same t u
 still t u e f = record { bytes = e; locks = f }
 
-either : (t : Tag) (b : Bool) (x y : Tag) → Same t x → Same t y → Same t (cond b x y)
-either t true x y p q = p
-either t false x y p q = q
-
-singulated : (t : Tag) (s : State) (x : Tag) → Same t x → Same t (if_singulated s x (met t))
-singulated t Ready x p = (still t _ refl refl)
-singulated t Singulation x p = p
-singulated t Inventoried x p = (still t _ refl refl)
+only_met : (t : Tag) → Same t (met t)
+only_met t = still t (met t) refl refl
 
 not_opened : (coin : Bool) (t : Tag) (b : Bool) → Same t (obeyed (cond b damaged unknown) coin t.permission (met t))
 not_opened coin t true = still t (in_state Ready (met t)) refl refl
-not_opened coin t false = still t (met t) refl refl
+not_opened coin t false = only_met t
 
 or_nothing : (b : Bool) → b ≡ (b || false)
 or_nothing true = refl
@@ -122,16 +117,16 @@ wrote : (code : ℕ) (parts : List Part) (t : Tag) → length t.memory ≡ 56 �
     (marking Fresh (remembering (stored (byte_of Address parts) (byte_of Mask parts) (bytes_of Data parts) t.memory 4) (moved (met t)))))
     (marking Clear (moved (met t)))) (met t))
 wrote code parts t lm ll false writable em ew =
-    untouched (opened code Write parts) t (met t) (λ i. and_left (is_meant t (bytes_of Serial parts)) _ em) (λ i. refl) (still t (met t) refl refl)
+    untouched (opened code Write parts) t (met t) (λ i. and_left _ _ (and_left (is_meant t (bytes_of Serial parts)) _ em)) (λ i. refl) (only_met t)
 wrote code parts t lm ll true false em ew =
-    untouched (opened code Write parts) t (marking Clear (moved (met t))) (λ i. and_right (is_meant t (bytes_of Serial parts)) _ (and_left (is_writable t (byte_of Address parts)) _ ew)) (λ i. refl)
+    untouched (opened code Write parts) t (marking Clear (moved (met t))) (λ i. and_left _ _ (and_right (is_meant t (bytes_of Serial parts)) _ ew)) (λ i. refl)
     (still t (marking Clear (moved (met t))) refl refl)
 wrote code parts t lm ll true true em ew =
     let a : ℕ = byte_of Address parts in
     let mask : ℕ = byte_of Mask parts in
     let inside = writable_inside t a ll ew in
     let asked : (i : ℕ) → stores_at (opened code Write parts) t i ≡ is_reached a mask i =
-    λ i. ap₂ (λ (x y : Bool). x && (y && is_reached a mask i)) em ew in
+    λ i. ap₂ (λ (x y : Bool). (x && y) && is_reached a mask i) em ew in
     record {
       bytes = λ i. stored_at_lem a mask (bytes_of Data parts) t.memory 4 i (omega arith)
           ∙ ap (λ (b : Bool). cond b (get_or (bytes_of Data parts) (i - a) 0) (get_or t.memory i 0)) (sym (asked i));
@@ -156,22 +151,22 @@ locked_at_lem : (code : ℕ) (parts : List Part) (t : Tag) → length t.locks �
     (if_inventoried s (cond lockable (marking Fresh (locking (set t.locks (byte_of Address parts) true) (met t))) (marking Clear (met t))) (met t))
     (met t))
 locked_at_lem code parts t ll false lockable s em es ek =
-    untouched (opened code Lock parts) t (met t) (λ i. refl) (λ i. and_left (is_meant t (bytes_of Serial parts)) _ em) (still t (met t) refl refl)
+    untouched (opened code Lock parts) t (met t) (λ i. refl) (λ i. and_left _ _ (and_left _ _ (and_left (is_meant t (bytes_of Serial parts)) _ em))) (only_met t)
 locked_at_lem code parts t ll true lockable Ready em es ek =
-    untouched (opened code Lock parts) t (met t) (λ i. refl) (λ i. and_right (is_meant t (bytes_of Serial parts)) _ (and_left _ _ (ap (λ (x : State). if_inventoried x true false) es)))
-    (still t (met t) refl refl)
+    untouched (opened code Lock parts) t (met t) (λ i. refl) (λ i. and_left _ _ (and_left _ _ (and_right (is_meant t (bytes_of Serial parts)) _ (ap (λ (x : State). if_inventoried x true false) es))))
+    (only_met t)
 locked_at_lem code parts t ll true lockable Singulation em es ek =
-    untouched (opened code Lock parts) t (met t) (λ i. refl) (λ i. and_right (is_meant t (bytes_of Serial parts)) _ (and_left _ _ (ap (λ (x : State). if_inventoried x true false) es)))
-    (still t (met t) refl refl)
+    untouched (opened code Lock parts) t (met t) (λ i. refl) (λ i. and_left _ _ (and_left _ _ (and_right (is_meant t (bytes_of Serial parts)) _ (ap (λ (x : State). if_inventoried x true false) es))))
+    (only_met t)
 locked_at_lem code parts t ll true false Inventoried em es ek =
     untouched (opened code Lock parts) t (marking Clear (met t)) (λ i. refl)
-    (λ i. and_right (is_meant t (bytes_of Serial parts)) _ (and_right (if_inventoried t.state true false) _ (and_left (is_lockable t.permission (byte_of Address parts)) _ ek)))
+    (λ i. and_left _ _ (and_right (is_meant t (bytes_of Serial parts) && if_inventoried t.state true false) _ ek))
     (still t (marking Clear (met t)) refl refl)
 locked_at_lem code parts t ll true true Inventoried em es ek =
     let a : ℕ = byte_of Address parts in
     let inside = lockable_inside t.permission a ek in
     let asked : (i : ℕ) → locks_at (opened code Lock parts) t i ≡ eqb i a =
-    λ i. ap₂ (λ (x : Bool) (s : State). x && (if_inventoried s true false && (is_lockable t.permission a && eqb i a))) em es
+    λ i. ap₂ (λ (x : Bool) (s : State). ((x && if_inventoried s true false) && is_lockable t.permission a) && eqb i a) em es
     ∙ ap (λ (b : Bool). b && eqb i a) ek in
     record {
       bytes = λ i. refl;
@@ -182,20 +177,20 @@ locked_at_lem code parts t ll true true Inventoried em es ek =
 pub accounted : (o : Opening) (coin : Bool) (t : Tag) → length t.memory ≡ 56 → length t.locks ≡ 56 → Accounted o t (stepped o coin t)
 accounted (refused n) coin t lm ll =
     untouched (refused n) t (stepped (refused n) coin t) (λ i. refl) (λ i. refl) (not_opened coin t (ltb n 3))
-accounted (opened code Select parts) coin t lm ll = untouched (opened code Select parts) t _ (λ i. refl) (λ i. refl) (either t _ _ _ (still t _ refl refl) (still t _ refl refl))
-accounted (opened code UnselectNe parts) coin t lm ll = untouched (opened code UnselectNe parts) t _ (λ i. refl) (λ i. refl) (singulated t t.state _ (either t _ _ _ (still t _ refl refl) (still t _ refl refl)))
-accounted (opened code UnselectIdFlag parts) coin t lm ll = untouched (opened code UnselectIdFlag parts) t _ (λ i. refl) (λ i. refl) (singulated t t.state _ (either t _ _ _ (still t _ refl refl) (still t _ refl refl)))
-accounted (opened code UnselectNoidFlag parts) coin t lm ll = untouched (opened code UnselectNoidFlag parts) t _ (λ i. refl) (λ i. refl) (singulated t t.state _ (either t _ _ _ (still t _ refl refl) (still t _ refl refl)))
-accounted (opened code Query parts) coin t lm ll = untouched (opened code Query parts) t _ (λ i. refl) (λ i. refl) (singulated t t.state _ (still t _ refl refl))
-accounted (opened code Scroll parts) coin t lm ll = untouched (opened code Scroll parts) t _ (λ i. refl) (λ i. refl) (singulated t t.state _ (still t _ refl refl))
+accounted (opened code Select parts) coin t lm ll = untouched (opened code Select parts) t _ (λ i. refl) (λ i. refl) (either (Same t) _ _ _ (still t _ refl refl) (still t _ refl refl))
+accounted (opened code UnselectNe parts) coin t lm ll = untouched (opened code UnselectNe parts) t _ (λ i. refl) (λ i. refl) (singulated (Same t) t.state _ _ (either (Same t) _ _ _ (still t _ refl refl) (still t _ refl refl)) (only_met t))
+accounted (opened code UnselectIdFlag parts) coin t lm ll = untouched (opened code UnselectIdFlag parts) t _ (λ i. refl) (λ i. refl) (singulated (Same t) t.state _ _ (either (Same t) _ _ _ (still t _ refl refl) (still t _ refl refl)) (only_met t))
+accounted (opened code UnselectNoidFlag parts) coin t lm ll = untouched (opened code UnselectNoidFlag parts) t _ (λ i. refl) (λ i. refl) (singulated (Same t) t.state _ _ (either (Same t) _ _ _ (still t _ refl refl) (still t _ refl refl)) (only_met t))
+accounted (opened code Query parts) coin t lm ll = untouched (opened code Query parts) t _ (λ i. refl) (λ i. refl) (singulated (Same t) t.state _ _ (still t _ refl refl) (only_met t))
+accounted (opened code Scroll parts) coin t lm ll = untouched (opened code Scroll parts) t _ (λ i. refl) (λ i. refl) (singulated (Same t) t.state _ _ (still t _ refl refl) (only_met t))
 accounted (opened code Repeat parts) coin t lm ll = untouched (opened code Repeat parts) t _ (λ i. refl) (λ i. refl) (still t _ refl refl)
 accounted (opened code Reset parts) coin t lm ll = untouched (opened code Reset parts) t _ (λ i. refl) (λ i. refl) (still t _ refl refl)
-accounted (opened code Read parts) coin t lm ll = untouched (opened code Read parts) t _ (λ i. refl) (λ i. refl) (either t _ _ _ (still t _ refl refl) (still t _ refl refl))
-accounted (opened code ReadFlexible parts) coin t lm ll = untouched (opened code ReadFlexible parts) t _ (λ i. refl) (λ i. refl) (either t _ _ _ (still t _ refl refl) (still t _ refl refl))
+accounted (opened code Read parts) coin t lm ll = untouched (opened code Read parts) t _ (λ i. refl) (λ i. refl) (either (Same t) _ _ _ (still t _ refl refl) (still t _ refl refl))
+accounted (opened code ReadFlexible parts) coin t lm ll = untouched (opened code ReadFlexible parts) t _ (λ i. refl) (λ i. refl) (either (Same t) _ _ _ (still t _ refl refl) (still t _ refl refl))
 accounted (opened code Verify parts) coin t lm ll =
     untouched (opened code Verify parts) t _ (λ i. refl) (λ i. refl)
-    (either t (is_meant t (bytes_of Serial parts)) _ _ (either t (is_write_ok (met t).mark) _ _ (still t (moved (met t)) refl refl) (still t (met t) refl refl)) (still t (met t) refl refl))
-accounted (opened code Qlock parts) coin t lm ll = untouched (opened code Qlock parts) t _ (λ i. refl) (λ i. refl) (either t _ _ _ (still t _ refl refl) (still t _ refl refl))
+    (either (Same t) (is_meant t (bytes_of Serial parts)) _ _ (either (Same t) (is_write_ok (met t).mark) _ _ (still t (moved (met t)) refl refl) (only_met t)) (only_met t))
+accounted (opened code Qlock parts) coin t lm ll = untouched (opened code Qlock parts) t _ (λ i. refl) (λ i. refl) (either (Same t) _ _ _ (still t _ refl refl) (still t _ refl refl))
 accounted (opened code Write parts) coin t lm ll = wrote code parts t lm ll (is_meant t (bytes_of Serial parts)) (is_writable t (byte_of Address parts)) refl refl
 accounted (opened code Lock parts) coin t lm ll =
     locked_at_lem code parts t ll (is_meant t (bytes_of Serial parts)) (is_lockable t.permission (byte_of Address parts)) t.state refl refl refl

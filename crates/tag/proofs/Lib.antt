@@ -1,4 +1,6 @@
 pub mod Accounts
+pub mod Branches
+pub mod Effects
 pub mod Limits
 pub mod Listed
 pub mod Sizes

@@ -1,56 +1,42 @@
 -- No frame changes how long a memory is. Assumes nothing.
-use Rattle.std.proofs.Common.{◌≡◌, ℕ, Bool, true, false, cond, not, length, Option, refl}
+use Rattle.std.proofs.Common.{◌≡◌, ℕ, Bool, not, length, Option, refl}
 use Rattle.frame.specs.Openings.{Opening}
-use Rattle.record.specs.declared.State.{State}
-use Rattle.record.specs.declared.State.TheVariants.{Ready, Singulation, Inventoried}
+use Rattle.record.specs.declared.State.TheVariants.{Ready}
 use Rattle.record.specs.declared.WriteMark.TheVariants.{Clear, Fresh}
 use Rattle.record.specs.declared.Tag.{Tag}
 use Rattle.record.specs.Masks.{stored, matches}
 use Rattle.record.specs.Records.{is_write_ok, in_state, marking, permitting, remembering, locking}
 use Rattle.record.proofs.Sizes.{length-stored}
 use Rattle.tag.specs.Orders.{Order, select, unselect_ne, unselect_id_flag, unselect_noid_flag, query, scroll, again, reset, read, verify, write, lock, qlock, damaged, unknown, order}
-use Rattle.tag.specs.Steps.{met, if_singulated, if_inventoried, is_chosen, joined, moved, verified, is_writable, is_lockable, is_meant, written, locked, obeyed, stepped}
+use Rattle.tag.proofs.Branches.{either, singulated, inventoried}
+use Rattle.tag.specs.Steps.{met, is_chosen, joined, moved, verified, is_writable, is_lockable, is_meant, written, locked, obeyed, stepped}
 
 -- A memory of some length.
 abbrev Has : ℕ → Tag → Type 0
 Has n t = length t.memory ≡ n
 
-either : (n : ℕ) (b : Bool) (x y : Tag) → Has n x → Has n y → Has n (cond b x y)
-either n true x y p q = p
-either n false x y p q = q
-
-singulated : (n : ℕ) (s : State) (x y : Tag) → Has n x → Has n y → Has n (if_singulated s x y)
-singulated n Ready x y p q = q
-singulated n Singulation x y p q = p
-singulated n Inventoried x y p q = q
-
-inventoried : (n : ℕ) (s : State) (x y : Tag) → Has n x → Has n y → Has n (if_inventoried s x y)
-inventoried n Ready x y p q = q
-inventoried n Singulation x y p q = q
-inventoried n Inventoried x y p q = p
-
 -- No order changes how long a memory is.
 pub length-obeyed : (o : Order) (coin : Bool) (p : Option ℕ) (t : Tag) → Has (length t.memory) (obeyed o coin p t)
-length-obeyed (select a mask word) coin p t = either _ (is_chosen t.state (matches t.memory a mask word)) (joined t) t refl refl
+length-obeyed (select a mask word) coin p t = either (Has _) (is_chosen t.state (matches t.memory a mask word)) (joined t) t refl refl
 length-obeyed (unselect_ne a mask word) coin p t =
-    singulated _ t.state _ t (either _ (not (matches t.memory a mask word)) (in_state Ready t) (joined t) refl refl) refl
-length-obeyed unselect_id_flag coin p t = singulated _ t.state _ t (either _ t.identified (in_state Ready t) (joined t) refl refl) refl
-length-obeyed unselect_noid_flag coin p t = singulated _ t.state _ t (either _ (not t.identified) (in_state Ready t) (joined t) refl refl) refl
-length-obeyed query coin p t = singulated _ t.state _ t refl refl
-length-obeyed scroll coin p t = singulated _ t.state _ t refl refl
+    singulated (Has _) t.state _ t (either (Has _) (not (matches t.memory a mask word)) (in_state Ready t) (joined t) refl refl) refl
+length-obeyed unselect_id_flag coin p t = singulated (Has _) t.state _ t (either (Has _) t.identified (in_state Ready t) (joined t) refl refl) refl
+length-obeyed unselect_noid_flag coin p t = singulated (Has _) t.state _ t (either (Has _) (not t.identified) (in_state Ready t) (joined t) refl refl) refl
+length-obeyed query coin p t = singulated (Has _) t.state _ t refl refl
+length-obeyed scroll coin p t = singulated (Has _) t.state _ t refl refl
 length-obeyed again coin p t = refl
 length-obeyed reset coin p t = refl
-length-obeyed (read serial a n) coin p t = either _ (is_meant t serial) _ t refl refl
+length-obeyed (read serial a n) coin p t = either (Has _) (is_meant t serial) _ t refl refl
 length-obeyed (verify serial a) coin p t =
-    either _ (is_meant t serial) (verified t) t (either _ (is_write_ok t.mark) (moved t) t refl refl) refl
+    either (Has _) (is_meant t serial) (verified t) t (either (Has _) (is_write_ok t.mark) (moved t) t refl refl) refl
 length-obeyed (write serial a mask bytes) coin p t =
-    either _ (is_meant t serial) (written a mask bytes t) t
-    (either _ (is_writable t a) (permitting _ (marking Fresh (remembering (stored a mask bytes t.memory 4) (moved t)))) (marking Clear (moved t))
+    either (Has _) (is_meant t serial) (written a mask bytes t) t
+    (either (Has _) (is_writable t a) (permitting _ (marking Fresh (remembering (stored a mask bytes t.memory 4) (moved t)))) (marking Clear (moved t))
     (length-stored a mask bytes t.memory 4) refl) refl
 length-obeyed (lock serial a) coin p t =
-    either _ (is_meant t serial) _ t
-    (inventoried _ t.state (locked p a t) t (either _ (is_lockable p a) (marking Fresh (locking _ t)) (marking Clear t) refl refl) refl) refl
-length-obeyed (qlock serial a) coin p t = either _ (is_meant t serial) _ t refl refl
+    either (Has _) (is_meant t serial) _ t
+    (inventoried (Has _) t.state (locked p a t) t (either (Has _) (is_lockable p a) (marking Fresh (locking _ t)) (marking Clear t) refl refl) refl) refl
+length-obeyed (qlock serial a) coin p t = either (Has _) (is_meant t serial) _ t refl refl
 length-obeyed damaged coin p t = refl
 length-obeyed unknown coin p t = refl
 

@@ -1,5 +1,9 @@
 pub mod Cases
+pub mod Flags
+pub mod Frames
 pub mod Listings
+pub mod Marks
 pub mod Memories
 pub mod Orders
+pub mod Permissions
 pub mod Steps

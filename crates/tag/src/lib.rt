@@ -7,9 +7,12 @@ ghost use Rattle.frame.specs.Openings.{opening, seen};
 ghost use Rattle.frame.specs.Requests.{command_of, parts_of};
 ghost use Rattle.reply.specs.Replies.{data_in, sounding, Residual};
 ghost use Rattle.tag.specs.Cases.{FullCounters};
+ghost use Rattle.tag.specs.Flags.{Flagged};
 ghost use Rattle.tag.specs.Listings.{StepCases};
+ghost use Rattle.tag.specs.Marks.{Remarked};
 ghost use Rattle.tag.specs.Memories.{Accounted};
 ghost use Rattle.tag.specs.Orders.{asked};
+ghost use Rattle.tag.specs.Permissions.{Permitted};
 ghost use Rattle.tag.specs.Steps.{is_meant, obeyed, answered, stepped, replied};
 
 mod commands;
@@ -42,6 +45,9 @@ pub fn step(tag: &mut Tag, opened: &Result<Frame<'_>, Refusal>, coin: bool) -> O
     ensures after { tag.new ≡ stepped (seen opened.now) coin tag.old }
     ensures reply { sounding (data_in tag.new result) ≡ replied (seen opened.now) coin tag.old }
     ensures memory { Accounted (seen opened.now) tag.old tag.new }
+    ensures flag { Flagged (seen opened.now) tag.old tag.new }
+    ensures permission { Permitted (seen opened.now) tag.old tag.new }
+    ensures mark { Remarked (seen opened.now) tag.old tag.new }
     ensures residue { Residual (replied (seen opened.now) coin tag.old) }
     ensures counters { FullCounters }
 {
@@ -52,6 +58,9 @@ pub fn step(tag: &mut Tag, opened: &Result<Frame<'_>, Refusal>, coin: bool) -> O
 // What holds of every step, for the proof of the above: it does nothing.
 fn laws(tag: &Tag, opened: &Result<Frame<'_>, Refusal>, coin: bool)
     ensures memory { Accounted (seen opened.now) tag.now (stepped (seen opened.now) coin tag.now) }
+    ensures flag { Flagged (seen opened.now) tag.now (stepped (seen opened.now) coin tag.now) }
+    ensures permission { Permitted (seen opened.now) tag.now (stepped (seen opened.now) coin tag.now) }
+    ensures mark { Remarked (seen opened.now) tag.now (stepped (seen opened.now) coin tag.now) }
     ensures residue { Residual (replied (seen opened.now) coin tag.now) }
     ensures counters { FullCounters }
 {
