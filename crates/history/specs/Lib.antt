@@ -1,0 +1,3 @@
+pub mod Histories
+pub mod Meetings
+pub mod Runs

@@ -1,0 +1,55 @@
+-- What a field meets, call by call, and what it may make of it. Assumes nothing.
+use Rattle.std.specs.Prelude.{◌≡◌, ℕ, true, false, List, [], ◌∷◌, Err}
+use Rattle.protocol.specs.declared.refusal.Refusal.{Refusal}
+use Rattle.protocol.specs.Refusals.{number_of}
+use Rattle.field.specs.declared.field.Field.{Ghosts as Kind}
+use Rattle.field.specs.declared.hearing.Hearing.{Hearing}
+use Rattle.field.specs.Promises.{AfterSend, AfterGap}
+use Rattle.field.specs.Sends.{is_short}
+use Rattle.slot.specs.Going.{setting, is_recorded}
+use Rattle.slot.specs.Rules.{Setting}
+use Rattle.sweep.specs.Whole.{Outcome, Swept}
+use Rattle.history.specs.declared.call.Call.{Call}
+use Rattle.history.specs.declared.call.Call.TheVariants as call
+use Rattle.history.specs.declared.desk.Desk.{Desk}
+
+-- A call, with what a field has of its own for it.
+pub data Step : Type 0 where
+  -- the bytes of a frame, the row of coins, and the length of the reply buffer
+  send : List ℕ → ℕ → ℕ → Step
+  -- so many microseconds
+  gap : ℕ → Step
+  sweep : Setting → Step
+
+abbrev pub step_of : Call → Desk → Step
+step_of (call.Send frame row room) desk = send frame.now row room
+step_of (call.Gap microseconds) desk = gap microseconds
+step_of call.Sweep desk = sweep (setting desk.coins.now desk.budget desk.lists)
+
+-- Calls in their order, each with the desk at its place.
+unfoldable pub steps_of : List Call → List Desk → List Step
+steps_of [] desks = []
+steps_of (c ∷ cs) [] = []
+steps_of (c ∷ cs) (d ∷ ds) = step_of c d ∷ steps_of cs ds
+
+-- What a field answers.
+pub data Account : Type 0 where
+  refused : Refusal → Account
+  heard : Hearing → Account
+  passed : Account
+  swept : Outcome → Account
+
+-- A send that is refused: nothing has changed.
+pub record AfterRefusal {F : Type 0} (kind : Kind F) (frame : List ℕ) (row : ℕ) (e : Refusal) (before after : F) : Type 0 where
+  pub number : number_of e ≡ 5
+  pub same : after ≡ before
+  pub promise : kind.hears before frame row (Err e) after
+
+-- What a field may make of a step: the field before, the answer, and the field after.
+abbrev pub Met : {F : Type 0} → Kind F → Step → F → Account → F → Type 0
+Met kind (send frame row room) before (refused e) after = (is_short room ≡ true) × AfterRefusal kind frame row e before after
+Met kind (send frame row room) before (heard h) after = (is_short room ≡ false) × AfterSend kind frame row h before after
+Met kind (gap microseconds) before passed after = AfterGap kind microseconds before after
+Met kind (sweep set) before (refused e) after = (is_recorded set.coins ≡ false) × (number_of e ≡ 10) × (after ≡ before)
+Met kind (sweep set) before (swept o) after = (is_recorded set.coins ≡ true) × Swept kind set before after o
+Met kind step before account after = ⊥

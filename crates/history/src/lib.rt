@@ -1,0 +1,6 @@
+// One field over a list of calls: sends, gaps and sweeps.
+#![tactic(auto)]
+
+pub mod call;
+pub mod desk;
+pub mod playing;
