@@ -1,132 +1,181 @@
--- Two fields that begin alike agree as long as the play is fair. Assumes nothing.
-use Rattle.std.proofs.Common.{◌≡◌, ℕ, Bool, List, [], ◌∷◌, sym, ◌∙◌, subst}
+-- Two fields that begin alike agree as long as the run is fair. Assumes nothing.
+use Rattle.std.proofs.Common.{◌≡◌, ℕ, ◌+◌, ◌≤◌, Bool, true, false, cond, List, [], ◌∷◌, map, length, sym, refl, ap, ◌∙◌, ap₂, subst, arith}
+use Rattle.frame.specs.Openings.{opening}
 use Rattle.record.specs.declared.Tag.{Tag}
-use Rattle.field.specs.Sends.{sent_to, gapped_all}
-use Rattle.slot.specs.declared.lists.Lists.{Lists}
-use Rattle.slot.specs.Going.{setting}
-use Rattle.slot.specs.Rules.{Setting}
-use Rattle.sweep.specs.Fates.{Sized}
-use Rattle.sweep.specs.Whole.{Outcome}
-use Rattle.compare.specs.declared.call.Side.TheVariants.{Left, Right}
-use Rattle.compare.specs.declared.call.Call.{Call}
-use Rattle.compare.specs.declared.call.Call.TheVariants as call
-use Rattle.compare.specs.Meetings.{send, gap, sweep, step_on, steps_on, Account, unsent, heard, passed, unswept, reported, Met}
-use Rattle.compare.specs.Histories.{Moment, History}
-use Rattle.compare.specs.Laws.{IsFair, SameAccounts, Agreed, Fair, AllAgreed, Law}
-use Rattle.compare.proofs.Sizes.{sized_sent, sized_gapped, sized_fates}
-use Rattle.compare.proofs.Sweeps.{Settled, settled}
+use Rattle.field.specs.declared.field.Field.{Ghosts as Kind}
+use Rattle.field.specs.Sends.{stepped_all, gapped_all, sent_to}
+use Rattle.slot.specs.Rules.{Setting, Play, beginning, ended, played}
+use Rattle.sweep.specs.Fates.{fate_of, due_serials, EachOnce, Fated}
+use Rattle.sweep.specs.Tallies.{Balanced}
+use Rattle.sweep.specs.Whole.{Outcome, Swept}
+use Rattle.sweep.proofs.Balances.{ends_balanced}
+use Rattle.sweep.proofs.Plays.{fates}
+use Rattle.history.specs.declared.call.Call.{Call}
+use Rattle.history.specs.declared.call.Call.TheVariants as call
+use Rattle.history.specs.declared.desk.Desk.{Desk}
+use Rattle.history.specs.Histories.{Moment, History}
+use Rattle.history.specs.Meetings.{Step, send, gap, sweep, step_of, steps_of, Account, refused, heard, passed, swept, Met}
+use Rattle.history.specs.Runs.{Ran}
+use Rattle.compare.specs.Laws.{IsOneCall, AreOneList, IsClean, IsFair, SameAccounts, Agreed, Fair, AllAgreed, Law, Together}
 
--- One call.
-record Goes (tags : List Tag) (left right : Moment) : Type 0 where
-  agreed : Agreed tags left right
-  sized : Sized left.tags
+-- What a clean sweep leaves and reports.
+record Settled (before after : List Tag) (o : Outcome) : Type 0 where
+  tags : after ≡ map fate_of before
+  serials : EachOnce o.serials (due_serials before)
+  slots : o.report.counts.lone + o.report.counts.silent ≡ o.report.counts.clash + 1
 
-sent : (faithful : Bool) (frame : List ℕ) (row room : ℕ) (before after : List Tag) (account : Account)
-    → Met faithful (send frame row room) before after account → after ≡ sent_to room frame row before
-sent faithful frame row room before after (unsent e) h = h.2
-sent faithful frame row room before after (heard x) h = h.1
-sent faithful frame row room before after passed h = absurd h
-sent faithful frame row room before after (unswept e) h = absurd h
-sent faithful frame row room before after (reported o) h = absurd h
-
-sent_same : (faithful : Bool) (frame : List ℕ) (row room : ℕ) (before after : List Tag) (account other : Account)
-    → Met faithful (send frame row room) before after account → SameAccounts before account other
-sent_same faithful frame row room before after (unsent e) other h = tt
-sent_same faithful frame row room before after (heard x) other h = tt
-sent_same faithful frame row room before after passed other h = absurd h
-sent_same faithful frame row room before after (unswept e) other h = absurd h
-sent_same faithful frame row room before after (reported o) other h = absurd h
-
-waited : (faithful : Bool) (microseconds : ℕ) (before after : List Tag) (account : Account)
-    → Met faithful (gap microseconds) before after account → after ≡ gapped_all microseconds before
-waited faithful microseconds before after (unsent e) h = absurd h
-waited faithful microseconds before after (heard x) h = absurd h
-waited faithful microseconds before after passed h = h
-waited faithful microseconds before after (unswept e) h = absurd h
-waited faithful microseconds before after (reported o) h = absurd h
-
-waited_same : (faithful : Bool) (microseconds : ℕ) (before after : List Tag) (account other : Account)
-    → Met faithful (gap microseconds) before after account → SameAccounts before account other
-waited_same faithful microseconds before after (unsent e) other h = absurd h
-waited_same faithful microseconds before after (heard x) other h = absurd h
-waited_same faithful microseconds before after passed other h = tt
-waited_same faithful microseconds before after (unswept e) other h = absurd h
-waited_same faithful microseconds before after (reported o) other h = absurd h
-
--- Two clean sweeps of the same tags.
-both_settled : (tags after other_after : List Tag) (o p : Outcome) → Sized tags → after ≡ o.tags → other_after ≡ p.tags → Settled tags o → Settled tags p
-    → Goes tags (record { account = reported o; tags = after }) (record { account = reported p; tags = other_after })
-both_settled tags after other_after o p sized e f s t =
+settled : {F : Type 0} (kind : Kind F) (set : Setting) (a b : F) (o : Outcome) → Swept kind set a b o → IsClean (kind.tags a) o
+    → Settled (kind.tags a) (kind.tags b) o
+settled kind set a b o s clean =
+    let before : List Tag = kind.tags a in
+    let p : Play = played set s.hearings (beginning before) in
+    let at_end : p.phase ≡ ended 0 = s.by_rule.at_end ∙ ap ended clean.whole in
+    let fated : Fated before p = fates set s.hearings before (kind.sized a) clean.distinct s.heard at_end in
+    let complete : Balanced p = ends_balanced set s.hearings before at_end in
     record {
-      agreed = record {
-        same = e ∙ s.tags ∙ sym t.tags ∙ sym f;
-        sweeps = record {
-          left = s.serials;
-          right = t.serials;
-          same = λ serial. s.serials.same serial ∙ sym (t.serials.same serial);
-          left_slots = s.slots;
-          right_slots = t.slots;
-        };
-      };
-      sized = subst Sized (sym (e ∙ s.tags)) (sized_fates tags sized);
+      tags = s.by_rule.tags ∙ fated.tags;
+      serials = subst (λ (l : List (List ℕ)). EachOnce l (due_serials before)) (sym s.by_rule.serials) fated.serials;
+      slots = ap₂ (λ (m n : ℕ). m + n) s.by_rule.lone s.by_rule.silent ∙ complete.slots ∙ ap (λ (n : ℕ). n + 1) (sym s.by_rule.clash);
     }
 
-swept_both : (faithful other : Bool) (set other_set : Setting) (tags after other_after : List Tag) (a b : Account) → Sized tags
-    → Met faithful (sweep set) tags after a → Met other (sweep other_set) tags other_after b → IsFair tags a tags b
-    → Goes tags (record { account = a; tags = after }) (record { account = b; tags = other_after })
-swept_both faithful other set other_set tags after other_after (unsent e) b sized h k fair = absurd h
-swept_both faithful other set other_set tags after other_after (heard x) b sized h k fair = absurd h
-swept_both faithful other set other_set tags after other_after passed b sized h k fair = absurd h
-swept_both faithful other set other_set tags after other_after (unswept e) (unsent d) sized h k fair = absurd k
-swept_both faithful other set other_set tags after other_after (unswept e) (heard y) sized h k fair = absurd k
-swept_both faithful other set other_set tags after other_after (unswept e) passed sized h k fair = absurd k
-swept_both faithful other set other_set tags after other_after (unswept e) (unswept d) sized h k fair =
-    record { agreed = record { same = h.2 ∙ sym k.2; sweeps = tt }; sized = subst Sized (sym h.2) sized }
-swept_both faithful other set other_set tags after other_after (unswept e) (reported p) sized h k fair = absurd fair
-swept_both faithful other set other_set tags after other_after (reported o) (unsent d) sized h k fair = absurd k
-swept_both faithful other set other_set tags after other_after (reported o) (heard y) sized h k fair = absurd k
-swept_both faithful other set other_set tags after other_after (reported o) passed sized h k fair = absurd k
-swept_both faithful other set other_set tags after other_after (reported o) (unswept d) sized h k fair = absurd fair
-swept_both faithful other set other_set tags after other_after (reported o) (reported p) sized h k fair =
-    both_settled tags after other_after o p sized h.1 k.1 (settled faithful set tags o sized h.2 fair.0) (settled other other_set tags p sized k.2 fair.1)
+-- A send by whether its buffer is too short.
+by_room : {F : Type 0} (kind : Kind F) (frame : List ℕ) (row : ℕ) (a : F) (short b : Bool) → short ≡ b
+    → cond short (kind.tags a) (stepped_all (opening frame) row (kind.tags a)) ≡ cond b (kind.tags a) (stepped_all (opening frame) row (kind.tags a))
+by_room kind frame row a short b e = ap (λ (s : Bool). cond s (kind.tags a) (stepped_all (opening frame) row (kind.tags a))) e
 
-module _ (faithful other : Bool) (lists others : Lists) where
-  one : (c : Call) (tags : List Tag) (m n : Moment) → Sized tags → Met faithful (step_on Left lists c) tags m.tags m.account
-      → Met other (step_on Right others c) tags n.tags n.account → IsFair tags m.account tags n.account → Goes tags m n
-  one (call.Send frame row room) tags m n sized h k fair =
-      let e : m.tags ≡ sent_to room frame.now row tags = sent faithful frame.now row room tags m.tags m.account h in
-      let f : n.tags ≡ sent_to room frame.now row tags = sent other frame.now row room tags n.tags n.account k in
+-- Sends and gaps change the tags by what they are, and no sweep is among their answers.
+sent_tags : {F : Type 0} (kind : Kind F) (frame : List ℕ) (row room : ℕ) (a b : F) (x : Account) → Met kind (send frame row room) a x b
+    → kind.tags b ≡ sent_to room frame row (kind.tags a)
+sent_tags kind frame row room a b (refused e) h = ap kind.tags h.1.same ∙ sym (by_room kind frame row a _ true h.0)
+sent_tags kind frame row room a b (heard x) h = h.1.tags ∙ sym (by_room kind frame row a _ false h.0)
+sent_tags kind frame row room a b passed h = absurd h
+sent_tags kind frame row room a b (swept o) h = absurd h
+
+sent_sweeps : {F : Type 0} (kind : Kind F) (frame : List ℕ) (row room : ℕ) (a b : F) (tags : List Tag) (x y : Account)
+    → Met kind (send frame row room) a x b → SameAccounts tags x y
+sent_sweeps kind frame row room a b tags (refused e) y h = tt
+sent_sweeps kind frame row room a b tags (heard x) y h = tt
+sent_sweeps kind frame row room a b tags passed y h = absurd h
+sent_sweeps kind frame row room a b tags (swept o) y h = absurd h
+
+gap_tags : {F : Type 0} (kind : Kind F) (us : ℕ) (a b : F) (x : Account) → Met kind (gap us) a x b → kind.tags b ≡ gapped_all us (kind.tags a)
+gap_tags kind us a b (refused e) h = absurd h
+gap_tags kind us a b (heard x) h = absurd h
+gap_tags kind us a b passed h = h.tags
+gap_tags kind us a b (swept o) h = absurd h
+
+gap_sweeps : {F : Type 0} (kind : Kind F) (us : ℕ) (a b : F) (tags : List Tag) (x y : Account) → Met kind (gap us) a x b → SameAccounts tags x y
+gap_sweeps kind us a b tags (refused e) y h = absurd h
+gap_sweeps kind us a b tags (heard x) y h = absurd h
+gap_sweeps kind us a b tags passed y h = tt
+gap_sweeps kind us a b tags (swept o) y h = absurd h
+
+module _ {L R : Type 0} (on_left : Kind L) (on_right : Kind R) where
+  -- Two clean sweeps of the same tags.
+  both_settled : (tags : List Tag) (m : Moment L) (n : Moment R) (o p : Outcome) → m.account ≡ swept o → n.account ≡ swept p
+      → Settled tags (on_left.tags m.field) o → Settled tags (on_right.tags n.field) p → Agreed on_left on_right tags m n
+  both_settled tags m n o p e f s t =
       record {
-        agreed = record { same = e ∙ sym f; sweeps = sent_same faithful frame.now row room tags m.tags m.account n.account h };
-        sized = subst Sized (sym e) (sized_sent room frame.now row tags sized);
+        same = s.tags ∙ sym t.tags;
+        sweeps = subst (λ (x : Account). SameAccounts tags x n.account) (sym e)
+            (subst (λ (y : Account). SameAccounts tags (swept o) y) (sym f)
+            (record {
+              left = s.serials;
+              right = t.serials;
+              same = λ serial. s.serials.same serial ∙ sym (t.serials.same serial);
+              left_slots = s.slots;
+              right_slots = t.slots;
+            }));
       }
-  one (call.Gap microseconds) tags m n sized h k fair =
-      let e : m.tags ≡ gapped_all microseconds tags = waited faithful microseconds tags m.tags m.account h in
-      let f : n.tags ≡ gapped_all microseconds tags = waited other microseconds tags n.tags n.account k in
+
+  module _ (set other : Setting) (a : L) (b : R) (m : Moment L) (n : Moment R) (same : on_left.tags a ≡ on_right.tags b) where
+    swept_both : (x y : Account) → m.account ≡ x → n.account ≡ y → Met on_left (sweep set) a x m.field → Met on_right (sweep other) b y n.field
+        → IsFair (on_left.tags a) x (on_right.tags b) y → Agreed on_left on_right (on_left.tags a) m n
+    swept_both (heard h) y e f met meet fair = absurd met
+    swept_both passed y e f met meet fair = absurd met
+    swept_both (refused c) (heard h) e f met meet fair = absurd meet
+    swept_both (refused c) passed e f met meet fair = absurd meet
+    swept_both (refused c) (refused d) e f met meet fair =
+        record {
+          same = ap on_left.tags met.2 ∙ same ∙ sym (ap on_right.tags meet.2);
+          sweeps = subst (λ (x : Account). SameAccounts (on_left.tags a) x n.account) (sym e) tt;
+        }
+    swept_both (refused c) (swept p) e f met meet fair = absurd fair
+    swept_both (swept o) (heard h) e f met meet fair = absurd meet
+    swept_both (swept o) passed e f met meet fair = absurd meet
+    swept_both (swept o) (refused d) e f met meet fair = absurd fair
+    swept_both (swept o) (swept p) e f met meet fair =
+        both_settled (on_left.tags a) m n o p e f (settled on_left set a m.field o met.1 fair.0)
+        (subst (λ (ts : List Tag). Settled ts (on_right.tags n.field) p) (sym same) (settled on_right other b n.field p meet.1 fair.1))
+
+  -- One call.
+  one : (s t : Step) (a : L) (b : R) (m : Moment L) (n : Moment R) → IsOneCall s t → on_left.tags a ≡ on_right.tags b
+      → Met on_left s a m.account m.field → Met on_right t b n.account n.field → IsFair (on_left.tags a) m.account (on_right.tags b) n.account
+      → Agreed on_left on_right (on_left.tags a) m n
+  one (send frame row room) (send f r k) a b m n alike same met meet fair =
       record {
-        agreed = record { same = e ∙ sym f; sweeps = waited_same faithful microseconds tags m.tags m.account n.account h };
-        sized = subst Sized (sym e) (sized_gapped microseconds tags sized);
+        same = sent_tags on_left frame row room a m.field m.account met ∙ ap (sent_to room frame row) same
+            ∙ sym (sent_tags on_right frame row room b n.field n.account
+            (subst (λ (x : ℕ). Met on_right (send frame row x) b n.account n.field) alike.2
+            (subst (λ (x : ℕ). Met on_right (send frame x k) b n.account n.field) alike.1
+            (subst (λ (x : List ℕ). Met on_right (send x r k) b n.account n.field) alike.0 meet))));
+        sweeps = sent_sweeps on_left frame row room a m.field (on_left.tags a) m.account n.account met;
       }
-  one (call.Sweep left right) tags m n sized h k fair =
-      swept_both faithful other (setting left.coins.now left.budget lists) (setting right.coins.now right.budget others) tags m.tags n.tags m.account n.account
-      sized h k fair
+  one (send frame row room) (gap us) a b m n alike same met meet fair = absurd alike
+  one (send frame row room) (sweep set) a b m n alike same met meet fair = absurd alike
+  one (gap us) (send frame row room) a b m n alike same met meet fair = absurd alike
+  one (gap us) (gap other) a b m n alike same met meet fair =
+      record {
+        same = gap_tags on_left us a m.field m.account met ∙ ap (gapped_all us) same
+            ∙ sym (gap_tags on_right us b n.field n.account (subst (λ (x : ℕ). Met on_right (gap x) b n.account n.field) alike meet));
+        sweeps = gap_sweeps on_left us a m.field (on_left.tags a) m.account n.account met;
+      }
+  one (gap us) (sweep set) a b m n alike same met meet fair = absurd alike
+  one (sweep set) (send frame row room) a b m n alike same met meet fair = absurd alike
+  one (sweep set) (gap us) a b m n alike same met meet fair = absurd alike
+  one (sweep set) (sweep other) a b m n alike same met meet fair =
+      swept_both set other a b m n same m.account n.account refl refl met meet fair
 
   -- All of them, of two fields with the same tags.
-  all : (calls : List Call) (left right : List Tag) (ms ns : List Moment) → Sized left → left ≡ right
-      → History faithful (steps_on Left lists calls) left ms → History other (steps_on Right others calls) right ns
-      → Fair left ms right ns → AllAgreed left ms ns
-  unfolding History Fair AllAgreed
-  all [] left right [] [] sized e h k fair = tt
-  all [] left right [] (n ∷ ns) sized e h k fair = absurd k
-  all [] left right (m ∷ ms) ns sized e h k fair = absurd h
-  all (c ∷ cs) left right [] ns sized e h k fair = absurd h
-  all (c ∷ cs) left right (m ∷ ms) [] sized e h k fair = absurd k
-  all (c ∷ cs) left right (m ∷ ms) (n ∷ ns) sized e h k fair =
-      let met : Met other (step_on Right others c) left n.tags n.account =
-      subst (λ (tags : List Tag). Met other (step_on Right others c) tags n.tags n.account) (sym e) k.0 in
-      let is_fair : IsFair left m.account left n.account = subst (λ (tags : List Tag). IsFair left m.account tags n.account) (sym e) fair.0 in
-      let here : Goes left m n = one c left m n sized h.0 met is_fair in
-      (here.agreed, all cs m.tags n.tags ms ns here.sized here.agreed.same h.1 k.1 fair.1)
+  all : (steps others : List Step) (left : L) (right : R) (ms : List (Moment L)) (ns : List (Moment R)) → AreOneList steps others
+      → History on_left steps left ms → History on_right others right ns → on_left.tags left ≡ on_right.tags right
+      → Fair on_left on_right left ms right ns → AllAgreed on_left on_right (on_left.tags left) ms ns
+  unfolding AreOneList History Fair AllAgreed
+  all [] [] left right [] [] alike h k same fair = tt
+  all [] [] left right [] (n ∷ ns) alike h k same fair = absurd k
+  all [] [] left right (m ∷ ms) ns alike h k same fair = absurd h
+  all [] (t ∷ ts) left right ms ns alike h k same fair = absurd alike
+  all (s ∷ ss) [] left right ms ns alike h k same fair = absurd alike
+  all (s ∷ ss) (t ∷ ts) left right [] ns alike h k same fair = absurd h
+  all (s ∷ ss) (t ∷ ts) left right (m ∷ ms) [] alike h k same fair = absurd k
+  all (s ∷ ss) (t ∷ ts) left right (m ∷ ms) (n ∷ ns) alike h k same fair =
+      let here : Agreed on_left on_right (on_left.tags left) m n = one s t left right m n alike.0 same h.0 k.0 fair.0 in
+      (here, all ss ts m.field n.field ms ns alike.1 h.1 k.1 here.same fair.1)
 
-pub law : (left right : List Tag) (calls : List Call) → Sized left → Law left right calls
-law left right calls sized faithful other lists others ms ns h k e fair = all faithful other lists others calls left right ms ns sized e h k fair
+  pub law : Law on_left on_right
+  law left right steps others ms ns alike h k same fair = all steps others left right ms ns alike h k same fair
+
+-- One call is one, whatever the desks on either side.
+one_call : (c : Call) (d e : Desk) → IsOneCall (step_of c d) (step_of c e)
+one_call (call.Send frame row room) d e = (refl, refl, refl)
+one_call (call.Gap us) d e = refl
+one_call call.Sweep d e = tt
+
+-- And so is a list of calls, where there are desks enough.
+pub one_list : (calls : List Call) (ds es : List Desk) → length calls ≤ length ds → length calls ≤ length es → AreOneList (steps_of calls ds) (steps_of calls es)
+unfolding steps_of AreOneList
+one_list [] ds es h k = tt
+one_list (c ∷ cs) [] es h k = absurd (omega arith)
+one_list (c ∷ cs) (d ∷ ds) [] h k = absurd (omega arith)
+one_list (c ∷ cs) (d ∷ ds) (e ∷ es) h k = (one_call c d e, one_list cs ds es (omega arith) (omega arith))
+
+-- A run of each over one list of calls.
+pub together : {L R : Type 0} (on_left : Kind L) (on_right : Kind R) (calls : List Call) (a b : L) (c d : R) (ds ds_after es es_after : List Desk)
+    → length calls ≤ length ds → length calls ≤ length es → Ran on_left calls ds ds_after a b → Ran on_right calls es es_after c d
+    → Together on_left on_right calls a b c d ds ds_after es es_after
+together on_left on_right calls a b c d ds ds_after es es_after few enough r s =
+    record {
+      left_run = r;
+      right_run = s;
+      agree = law on_left on_right a c (steps_of calls ds) (steps_of calls es) r.moments s.moments (one_list calls ds es few enough) r.history s.history;
+    }

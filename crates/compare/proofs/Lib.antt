@@ -1,5 +1,2 @@
 pub mod Agreements
 pub mod Places
-pub mod Sizes
-pub mod Sweeps
-pub mod Tellings

@@ -1,26 +1,40 @@
--- Two fields that begin alike and meet the same calls, whatever coins, budgets and lists each has for its sweeps. Assumes
--- nothing.
-use Rattle.std.specs.Prelude.{◌≡◌, ℕ, ◌+◌, Bool, List, [], ◌∷◌}
+-- Two fields, of any kinds, that begin alike and meet the same calls, whatever coins, budgets and lists each has for its
+-- sweeps. Assumes nothing.
+use Rattle.std.specs.Prelude.{◌≡◌, ℕ, ◌+◌, List, [], ◌∷◌}
 use Rattle.record.specs.declared.Tag.{Tag}
+use Rattle.field.specs.declared.field.Field.{Ghosts as Kind}
 use Rattle.slot.specs.Countings.{end_number}
-use Rattle.slot.specs.declared.lists.Lists.{Lists}
 use Rattle.sweep.specs.Fates.{times, due_serials, Distinct, EachOnce}
 use Rattle.sweep.specs.Whole.{Outcome}
-use Rattle.compare.specs.declared.call.Side.TheVariants.{Left, Right}
-use Rattle.compare.specs.declared.call.Call.{Call}
-use Rattle.compare.specs.Meetings.{Account, unswept, reported, steps_on}
-use Rattle.compare.specs.Histories.{Moment, History}
+use Rattle.history.specs.declared.call.Call.{Call}
+use Rattle.history.specs.declared.desk.Desk.{Desk}
+use Rattle.history.specs.Histories.{Moment, History}
+use Rattle.history.specs.Meetings.{Step, send, gap, sweep, Account, refused, swept}
+use Rattle.history.specs.Runs.{Ran}
 
--- A sweep that ends whole, of tags with no serial number twice.
+-- Two steps that are one call: sends are equal, gaps are equal, and a sweep has coins, budget and lists of its own.
+abbrev pub IsOneCall : Step → Step → Type 0
+IsOneCall (send frame row room) (send f r n) = (f ≡ frame) × (r ≡ row) × (n ≡ room)
+IsOneCall (gap microseconds) (gap us) = us ≡ microseconds
+IsOneCall (sweep set) (sweep other) = Unit {0}
+IsOneCall step other = ⊥
+
+-- Two lists of steps that are one list of calls.
+unfoldable pub AreOneList : List Step → List Step → Type 0
+AreOneList [] [] = Unit {0}
+AreOneList (s ∷ ss) (t ∷ ts) = IsOneCall s t × AreOneList ss ts
+AreOneList ss ts = ⊥
+
+-- A sweep that ends whole, of tags with no serial number twice as it began.
 pub record IsClean (before : List Tag) (o : Outcome) : Type 0 where
   pub whole : end_number o.report.end ≡ 0
   pub distinct : Distinct before
 
 -- A fair moment: a sweep is refused on both sides, or clean on both.
 abbrev pub IsFair : List Tag → Account → List Tag → Account → Type 0
-IsFair left (reported o) right (reported p) = IsClean left o × IsClean right p
-IsFair left (reported o) right (unswept e) = ⊥
-IsFair left (unswept e) right (reported o) = ⊥
+IsFair left (swept o) right (swept p) = IsClean left o × IsClean right p
+IsFair left (swept o) right (refused e) = ⊥
+IsFair left (refused e) right (swept p) = ⊥
 IsFair left account right other = Unit {0}
 
 -- Two whole sweeps of the same tags.
@@ -35,27 +49,38 @@ pub record SameSweeps (tags : List Tag) (o p : Outcome) : Type 0 where
   pub right_slots : p.report.counts.lone + p.report.counts.silent ≡ p.report.counts.clash + 1
 
 abbrev pub SameAccounts : List Tag → Account → Account → Type 0
-SameAccounts tags (reported o) (reported p) = SameSweeps tags o p
+SameAccounts tags (swept o) (swept p) = SameSweeps tags o p
 SameAccounts tags account other = Unit {0}
 
--- After a call both fields have the same tags, place by place and in every part.
-pub record Agreed (tags : List Tag) (left right : Moment) : Type 0 where
-  pub same : left.tags ≡ right.tags
-  pub sweeps : SameAccounts tags left.account right.account
+module _ {L R : Type 0} (on_left : Kind L) (on_right : Kind R) where
+  -- After a call both fields have the same tags, place by place and in every part.
+  pub record Agreed (tags : List Tag) (m : Moment L) (n : Moment R) : Type 0 where
+    pub same : on_left.tags m.field ≡ on_right.tags n.field
+    pub sweeps : SameAccounts tags m.account n.account
 
--- Every moment of two histories is fair, by the tags that it begins with.
-unfoldable pub Fair : List Tag → List Moment → List Tag → List Moment → Type 0
-Fair left (m ∷ ms) right (n ∷ ns) = IsFair left m.account right n.account × Fair m.tags ms n.tags ns
-Fair left ms right ns = Unit {0}
+  -- Every moment of two histories is fair, by the tags that it begins with.
+  unfoldable pub Fair : L → List (Moment L) → R → List (Moment R) → Type 0
+  Fair left (m ∷ ms) right (n ∷ ns) = IsFair (on_left.tags left) m.account (on_right.tags right) n.account × Fair m.field ms n.field ns
+  Fair left ms right ns = Unit {0}
 
--- After every call both fields agree.
-unfoldable pub AllAgreed : List Tag → List Moment → List Moment → Type 0
-AllAgreed tags [] [] = Unit {0}
-AllAgreed tags (m ∷ ms) (n ∷ ns) = Agreed tags m n × AllAgreed m.tags ms ns
-AllAgreed tags ms ns = ⊥
+  -- After every call both fields agree.
+  unfoldable pub AllAgreed : List Tag → List (Moment L) → List (Moment R) → Type 0
+  AllAgreed tags [] [] = Unit {0}
+  AllAgreed tags (m ∷ ms) (n ∷ ns) = Agreed tags m n × AllAgreed (on_left.tags m.field) ms ns
+  AllAgreed tags ms ns = ⊥
 
--- The law of two fields with these tags, by any two histories over one list of calls.
-abbrev pub Law : List Tag → List Tag → List Call → Type 0
-Law left right calls =
-    (faithful other : Bool) (lists others : Lists) (ms ns : List Moment) → History faithful (steps_on Left lists calls) left ms
-    → History other (steps_on Right others calls) right ns → left ≡ right → Fair left ms right ns → AllAgreed left ms ns
+  -- What two histories come to, where the tags are equal as they begin and every moment is fair.
+  abbrev pub Agree : L → List (Moment L) → R → List (Moment R) → Type 0
+  Agree left ms right ns = on_left.tags left ≡ on_right.tags right → Fair left ms right ns → AllAgreed (on_left.tags left) ms ns
+
+  -- The law of two fields of these kinds: any two histories over one list of calls.
+  abbrev pub Law : Type 0
+  Law =
+      (left : L) (right : R) (steps others : List Step) (ms : List (Moment L)) (ns : List (Moment R)) → AreOneList steps others
+      → History on_left steps left ms → History on_right others right ns → Agree left ms right ns
+
+  -- One list of calls on both fields: a run of each, and what the law concludes of just these two.
+  pub record Together (calls : List Call) (left left_after : L) (right right_after : R) (left_desks left_desks_after right_desks right_desks_after : List Desk) : Type 0 where
+    pub left_run : Ran on_left calls left_desks left_desks_after left left_after
+    pub right_run : Ran on_right calls right_desks right_desks_after right right_after
+    pub agree : Agree left left_run.moments right right_run.moments

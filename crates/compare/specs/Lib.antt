@@ -1,4 +1,2 @@
-pub mod Histories
 pub mod Laws
-pub mod Meetings
 pub mod Places

@@ -2,16 +2,16 @@
 ghost use Rattle.std.specs.Prelude.{◌≡◌, Decides};
 ghost use Rattle.compare.specs.Places.{alike_at};
 
-use field::field::Field;
+use field::lending::Lending;
 
 // Place by place, and in every part.
-pub fn agree<L: Field, R: Field>(left: &L, right: &R) -> bool
+pub fn agree<L: Lending, R: Lending>(left: &L, right: &R) -> bool
     ensures { Decides result (L.tags left.now ≡ R.tags right.now) }
 {
     left.places() == right.places() && (0..left.places()).all(|place| agree_at(left, right, place))
 }
 
-fn agree_at<L: Field, R: Field>(left: &L, right: &R, place: usize) -> bool
+fn agree_at<L: Lending, R: Lending>(left: &L, right: &R, place: usize) -> bool
     ensures { result ≡ alike_at (L.tags left.now) (R.tags right.now) place }
 {
     left.tag(place) == right.tag(place)

@@ -2,5 +2,4 @@
 #![tactic(auto)]
 
 pub mod agreeing;
-pub mod call;
 pub mod playing;
