@@ -3,7 +3,8 @@ ghost use Rattle.std.specs.Prelude.{◌≡◌, ◌≤◌, true, length, IfOk, If
 ghost use Rattle.frame.specs.Cases.{DamagedFrames};
 ghost use Rattle.frame.specs.Listings.{OpenedFrames, RefusedFrames};
 ghost use Rattle.frame.specs.Makings.{making, made};
-ghost use Rattle.frame.specs.Openings.{refused, opening, seen, bytes_seen, code_seen, request_seen, is_sealed, parameters_of};
+ghost use Rattle.frame.specs.Openings.{refused, opening, is_sealed, parameters_of};
+ghost use Rattle.frame.specs.Openings.{seen, bytes_seen, code_seen, request_seen};
 ghost use Rattle.frame.specs.Parts.{bytes_in, Within};
 ghost use Rattle.frame.specs.Requests.{parts_of};
 ghost use Rattle.protocol.specs.Refusals.{number_of};
