@@ -3,6 +3,7 @@ use Rattle.std.specs.Prelude.{ℕ, ◌-◌, Bool, cond, List, [], length, take, 
 use Rattle.std.specs.Str.{bytes_eq}
 use Rattle.protocol.specs.declared.command.Command.{Command}
 use Rattle.frame.specs.declared.opening.Frame.{Frame}
+use Rattle.frame.specs.declared.request.Request.{Request}
 use Rattle.protocol.specs.declared.refusal.Refusal.{Refusal}
 use Rattle.crc.specs.Check.{sealed}
 use Rattle.protocol.specs.Commands.{code_of, layout, length_of, named}
@@ -38,9 +39,19 @@ unfoldable pub opening : List ℕ → Opening
 opening frame =
     cond (nat_lt (length frame) 3) (refused 1) (cond (is_sealed frame) (by_name (named (slice_index frame 0)) frame) (refused 2))
 
+-- What a frame of the code shows: the bytes that it was opened from, their code, and what they ask.
+abbrev pub bytes_seen : Frame → List ℕ
+bytes_seen f = f.bytes.now
+
+abbrev pub code_seen : Frame → ℕ
+code_seen f = f.code
+
+abbrev pub request_seen : Frame → Request
+request_seen f = f.request
+
 -- What the code answers, in these words.
 abbrev pub seen : Result Frame Refusal → Opening
-seen (Ok f) = opened f.code (command_of f.request) (parts_of f.request)
+seen (Ok f) = opened (code_seen f) (command_of (request_seen f)) (parts_of (request_seen f))
 seen (Err e) = refused (number_of e)
 
 -- The parameters of a frame, none if it did not open.

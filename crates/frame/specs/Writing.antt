@@ -1,11 +1,27 @@
 -- What a writer holds once bytes are put into its buffer. Assumes nothing.
 use Rattle.std.specs.Prelude.{◌≡◌, ℕ, ◌+◌, Bool, cond, List, ◌++◌, length, take, drop, fold, nat_le}
+use Rattle.std.specs.Borrow.{MutBor}
 use Rattle.crc.specs.Check.{byte_taken}
 use Rattle.frame.specs.declared.writer.Writer.{Writer}
 
 -- A buffer with some bytes laid over it from a place on.
 unfoldable pub laid : List ℕ → ℕ → List ℕ → List ℕ
 laid buffer place bytes = take place buffer ++ (bytes ++ drop (place + length bytes) buffer)
+
+-- How many bytes a writer has filled.
+abbrev pub filled_of : Writer → ℕ
+filled_of w = w.filled
+
+-- The register over those.
+abbrev pub register_of : Writer → ℕ
+register_of w = w.register
+
+-- A writer that begins on a lent buffer: nothing is filled, and the buffer is as it was lent.
+pub record Begun (lent : MutBor (List ℕ)) (writer : Writer) : Type 0 where
+  pub filled : writer.filled ≡ 0
+  pub register : writer.register ≡ 0xffff
+  pub buffer : writer.buffer.now ≡ lent.now
+  pub lender : writer.buffer.ghost_name ≡ lent.ghost_name
 
 -- A writer before and after some bytes were to be put. It is done if they all fit: then they stand behind those that
 -- were there, and the register has taken them. Otherwise nothing has changed. The buffer is its lender's all the time.

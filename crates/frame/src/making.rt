@@ -48,9 +48,12 @@ impl<'a> Draft<'a> {
     }
 
     fn write(&self, buffer: &mut [u8]) -> Result<usize, Refusal>
-        ensures answer { answer_of result ≡ answering (making (code_of self.now.command) self.now.parameters.now (length buffer.old)) }
-        ensures buffer { buffer.new ≡ leaving (making (code_of self.now.command) self.now.parameters.now (length buffer.old)) buffer.old }
-        ensures opens { IfOk result (λ n. OpensAs (code_of self.now.command) self.now.parameters.now (take n buffer.new)) }
+        ensures answer { answer_of result
+            ≡ answering (making (code_of self.now.command) self.now.parameters.now (length buffer.old)) }
+        ensures buffer { buffer.new
+            ≡ leaving (making (code_of self.now.command) self.now.parameters.now (length buffer.old)) buffer.old }
+        ensures opens { IfOk result (λ n.
+            OpensAs (code_of self.now.command) self.now.parameters.now (take n buffer.new)) }
     {
         if buffer.len() < self.parameters.len() + 3 {
             return Err(Refusal::Buffer);

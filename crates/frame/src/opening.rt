@@ -3,7 +3,8 @@ ghost use Rattle.std.specs.Prelude.{◌≡◌, ◌≤◌, true, length, IfOk, If
 ghost use Rattle.frame.specs.Cases.{DamagedFrames};
 ghost use Rattle.frame.specs.Listings.{OpenedFrames, RefusedFrames};
 ghost use Rattle.frame.specs.Makings.{making, made};
-ghost use Rattle.frame.specs.Openings.{refused, opening, seen, is_sealed, parameters_of};
+ghost use Rattle.frame.specs.Openings.{refused, opening, is_sealed, parameters_of};
+ghost use Rattle.frame.specs.Openings.{seen, bytes_seen, code_seen, request_seen};
 ghost use Rattle.frame.specs.Parts.{bytes_in, Within};
 ghost use Rattle.frame.specs.Requests.{parts_of};
 ghost use Rattle.protocol.specs.Refusals.{number_of};
@@ -26,9 +27,10 @@ pub struct Frame<'a> {
 #[tactic(auto, using(crate::proofs::Limits::damaged_frames, crate::proofs::Listed::opened_frames, crate::proofs::Listed::refused_frames))]
 pub fn open(bytes: &[u8]) -> Result<Frame<'_>, Refusal>
     ensures seen { seen result ≡ opening bytes.now }
-    ensures bytes { IfOk result (λ f. f.bytes.now ≡ bytes.now) }
-    ensures within { IfOk result (λ f. Within bytes.now (parts_of f.request)) }
-    ensures remade { IfOk result (λ f. making f.code (bytes_in (parts_of f.request)) (length bytes.now) ≡ made bytes.now) }
+    ensures bytes { IfOk result (λ f. bytes_seen f ≡ bytes.now) }
+    ensures within { IfOk result (λ f. Within bytes.now (parts_of (request_seen f))) }
+    ensures remade { IfOk result (λ f.
+        making (code_seen f) (bytes_in (parts_of (request_seen f))) (length bytes.now) ≡ made bytes.now) }
     ensures longest { OnOk result (length bytes.now ≤ 17) }
     ensures damaged { DamagedFrames }
     ensures worked { OpenedFrames }
@@ -40,21 +42,21 @@ pub fn open(bytes: &[u8]) -> Result<Frame<'_>, Refusal>
 impl<'a> Frame<'a> {
     // The bytes that it was opened from.
     pub fn bytes(&self) -> &'a [u8]
-        ensures { result.now ≡ self.now.bytes.now }
+        ensures { result.now ≡ bytes_seen self.now }
     {
         self.bytes
     }
 
     // The code, its first byte.
     pub fn code(&self) -> u8
-        ensures { result ≡ self.now.code }
+        ensures { result ≡ code_seen self.now }
     {
         self.code
     }
 
     // The command with its parameters.
     pub fn request(&self) -> Request<'a>
-        ensures { result ≡ self.now.request }
+        ensures { result ≡ request_seen self.now }
     {
         self.request
     }
@@ -96,9 +98,10 @@ impl<'a> Sealed<'a> {
     // The frame, by the table: or no command has the code, or none of that length.
     fn frame(&self) -> Result<Frame<'a>, Refusal>
         ensures seen { seen result ≡ opening self.now.bytes.now }
-        ensures bytes { IfOk result (λ f. f.bytes.now ≡ self.now.bytes.now) }
-        ensures within { IfOk result (λ f. Within self.now.bytes.now (parts_of f.request)) }
-        ensures remade { IfOk result (λ f. making f.code (bytes_in (parts_of f.request)) (length self.now.bytes.now) ≡ made self.now.bytes.now) }
+        ensures bytes { IfOk result (λ f. bytes_seen f ≡ self.now.bytes.now) }
+        ensures within { IfOk result (λ f. Within self.now.bytes.now (parts_of (request_seen f))) }
+        ensures remade { IfOk result (λ f. making (code_seen f) (bytes_in (parts_of (request_seen f)))
+            (length self.now.bytes.now) ≡ made self.now.bytes.now) }
         ensures longest { OnOk result (length self.now.bytes.now ≤ 17) }
     {
         let entry = Entry::try_from(self.code)?;

@@ -3,7 +3,7 @@ ghost use Rattle.std.specs.Prelude.{◌≡◌, ◌+◌, ◌-◌, ◌≤◌, leng
 ghost use Rattle.crc.specs.Check.{sent};
 ghost use Rattle.frame.specs.Cases.{ShortReplies};
 ghost use Rattle.frame.specs.Listings.{LaidBytes};
-ghost use Rattle.frame.specs.Writing.{Put, laid};
+ghost use Rattle.frame.specs.Writing.{register_of, Put, laid};
 ghost use Rattle.protocol.specs.Refusals.{number_of};
 
 use crate::writer::Writer;
@@ -30,7 +30,7 @@ impl<'a> Writer<'a> {
     // Puts the check value of all that was put behind it, or nothing where it does not fit.
     #[tactic(auto, using(crate::proofs::Limits::short_replies))]
     pub fn seal(&mut self) -> Result<(), Refusal>
-        ensures put { Put (sent (0xffff - self.old.register)) self.old self.new (is_ok result) }
+        ensures put { Put (sent (0xffff - register_of self.old)) self.old self.new (is_ok result) }
         ensures refusal { IfErr result (λ e. number_of e ≡ 5) }
         ensures replies { ShortReplies }
     {

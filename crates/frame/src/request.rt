@@ -3,7 +3,8 @@ ghost use Rattle.std.specs.Prelude.{◌≡◌, ℕ, List, [], ◌∷◌, length}
 ghost use Rattle.protocol.specs.Commands.{layout, sizes};
 ghost use Rattle.frame.specs.Requests.{parts_of, command_of, comparison_parts, target_parts, bytes_part};
 ghost use Rattle.frame.specs.Parts.{placed, span_of};
-ghost use Rattle.protocol.specs.declared.command.Parameter.TheVariants.{Serial, Address, Mask, Word, Length, Data, Ignored};
+ghost use Rattle.protocol.specs.declared.command.Parameter.TheVariants.{Serial, Address, Mask, Word};
+ghost use Rattle.protocol.specs.declared.command.Parameter.TheVariants.{Length, Data, Ignored};
 
 use protocol::command::{Command, Parameter};
 

@@ -14,11 +14,10 @@ pub struct Writer<'a> {
 }
 
 impl<'a> Writer<'a> {
+    ghost use Rattle.frame.specs.Writing.{filled_of, Begun};
+
     pub fn new(buffer: &'a mut [u8]) -> Writer<'a>
-        ensures filled { result.filled ≡ 0 }
-        ensures register { result.register ≡ 0xffff }
-        ensures buffer { result.buffer.now ≡ buffer.old }
-        ensures lender { result.buffer.ghost_name ≡ buffer.entry.ghost_name }
+        ensures { Begun buffer.entry result }
     {
         Writer {
             buffer,
@@ -28,7 +27,7 @@ impl<'a> Writer<'a> {
     }
 
     pub fn filled(&self) -> usize
-        ensures { result ≡ self.now.filled }
+        ensures { result ≡ filled_of self.now }
     {
         self.filled
     }

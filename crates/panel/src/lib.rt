@@ -4,7 +4,7 @@
 ghost use Rattle.std.specs.Prelude.{◌≡◌, length, MatchResult, OnOk};
 ghost use Rattle.std.proofs.Props.{props};
 ghost use Rattle.crc.specs.Check.{check_value};
-ghost use Rattle.frame.specs.Openings.{opening};
+ghost use Rattle.frame.specs.Openings.{opening, code_seen, request_seen};
 ghost use Rattle.frame.specs.Parts.{span_of};
 ghost use Rattle.frame.specs.Requests.{parts_of};
 ghost use Rattle.protocol.specs.Refusals.{number_of};
@@ -63,14 +63,14 @@ fn show(frame: &[u8], shown: &mut [u8]) -> Result<(), Refusal>
 #[derive(Clone, Copy)]
 struct Shown<'a> {
     frame: Frame<'a>,
-    ghost small: { Small (parts_of frame.request) } by { Prim.hlevel props },
+    ghost small: { Small (parts_of (request_seen frame)) } by { Prim.hlevel props },
 }
 
 impl Shown<'_> {
     // The code, then each parameter's offset and length. They are written out, since so the row is proved with nothing
     // to say of a loop, and reads as the header does.
     fn row(&self) -> [u8; SHOWN]
-        ensures { result ≡ shown_of self.now.frame.code (parts_of self.now.frame.request) }
+        ensures { result ≡ shown_of (code_seen self.now.frame) (parts_of (request_seen self.now.frame)) }
     {
         let (serial, serial_length) = self.pair(Parameter::Serial);
         let (address, address_length) = self.pair(Parameter::Address);
@@ -100,8 +100,8 @@ impl Shown<'_> {
 
     // Offset and length of a parameter, and zeros where the frame has none, as the header has it.
     fn pair(&self, parameter: Parameter) -> (u8, u8)
-        ensures offset { result.0 ≡ offset_in (span_of parameter (parts_of self.now.frame.request)) }
-        ensures length { result.1 ≡ length_in (span_of parameter (parts_of self.now.frame.request)) }
+        ensures offset { result.0 ≡ offset_in (span_of parameter (parts_of (request_seen self.now.frame))) }
+        ensures length { result.1 ≡ length_in (span_of parameter (parts_of (request_seen self.now.frame))) }
     {
         match self.frame.request().span(parameter) {
             Some(span) => (span.offset as u8, span.length as u8),

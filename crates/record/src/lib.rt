@@ -118,8 +118,8 @@ impl Tag {
         &self.memory[..SERIAL]
     }
 
-    // Whether these are the tag's serial number. In a crowd most differ in the last byte, which is cheap to compare: the
-    // whole costs a call, and every tag would make it at each frame to one of them.
+    // Whether these are the tag's serial number. In a crowd most differ in the last byte, which is cheap to compare:
+    // the whole costs a call, and every tag would make it at each frame to one of them.
     pub fn has_serial(&self, serial: &[u8]) -> bool
         ensures { result ≡ bytes_eq (serial_of self.now) serial.now }
     {

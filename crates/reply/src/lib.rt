@@ -80,7 +80,8 @@ impl Reply {
     }
 }
 
-// Puts so many bytes of a tag from an address on, for which there is room. The tag is the receiver, but of another crate.
+// Puts so many bytes of a tag from an address on, for which there is room. The tag is the receiver, but of another
+// crate.
 fn put_memory(tag: &Tag, address: u8, count: usize, writer: &mut Writer<'_>) -> Result<(), Refusal>
     requires { writer.old.filled + count ≤ length writer.old.buffer.now }
     ensures { Put (bytes_from tag.now.memory address count) writer.old writer.new (is_ok result) }

@@ -1,6 +1,11 @@
 -- Lists that are filled from the front of lent storage. Assumes nothing.
 use Rattle.std.specs.Prelude.{◌≡◌, ℕ, Bool, cond, List, [], ◌∷◌, ◌++◌, length, take, drop, nat_le}
+use Rattle.std.specs.Borrow.{MutBor}
 use Rattle.rows.specs.declared.list.Rows.{Rows}
+
+-- The storage of a list, as it was lent.
+abbrev pub storage_of : {T : Type 0} → Rows T → MutBor (List T)
+storage_of list = list.storage
 
 -- The rows of a list: the filled front of its storage.
 abbrev pub rows_of : {T : Type 0} → Rows T → List T

@@ -1,6 +1,6 @@
 // Filling a list, row by row.
 ghost use Rattle.std.specs.Prelude.{◌≡◌, [], length, not, is_ok};
-ghost use Rattle.rows.specs.Filling.{rows_of, room_of, is_full, and_row, Behind};
+ghost use Rattle.rows.specs.Filling.{storage_of, rows_of, room_of, is_full, and_row, Behind};
 
 use crate::list::{Full, Rows};
 
@@ -8,7 +8,7 @@ impl<'a, T: Drop> Rows<'a, T> {
     // An empty list in some storage.
     pub fn new(storage: &'a mut [T]) -> Rows<'a, T>
         ensures rows { rows_of result ≡ [] }
-        ensures storage { result.storage ≡ storage.entry }
+        ensures storage { storage_of result ≡ storage.entry }
     {
         Rows { storage, filled: 0 }
     }
@@ -56,14 +56,14 @@ impl<'a, T: Drop> Rows<'a, T> {
     // Empties the list. The rows stay in the storage, where they now lie behind it.
     pub fn clear(&mut self)
         ensures rows { rows_of self.new ≡ [] }
-        ensures storage { self.new.storage ≡ self.old.storage }
+        ensures storage { storage_of self.new ≡ storage_of self.old }
     {
         self.filled = 0;
     }
 
     // Gives the storage back.
     pub fn into_storage(self) -> &'a mut [T]
-        ensures { result ≡ self.entry.storage }
+        ensures { result ≡ storage_of self.entry }
     {
         let Rows { storage, .. } = self;
         storage

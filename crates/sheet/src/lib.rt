@@ -28,8 +28,10 @@ pub fn write(
     report: &Report,
     buffer: &mut [u8],
 ) -> Result<usize, Refusal>
-    ensures answer { answer_of result ≡ answering (writing (sheet slots.now serials.now report.now) (length buffer.old)) }
-    ensures buffer { buffer.new ≡ leaving (writing (sheet slots.now serials.now report.now) (length buffer.old)) buffer.old }
+    ensures answer { answer_of result
+        ≡ answering (writing (sheet slots.now serials.now report.now) (length buffer.old)) }
+    ensures buffer { buffer.new
+        ≡ leaving (writing (sheet slots.now serials.now report.now) (length buffer.old)) buffer.old }
     ensures lines { LinesReadBack }
     ensures columns { Columns }
     ensures worked { SheetsPrinted }

@@ -43,7 +43,8 @@ impl fmt::Display for Hex<'_> {
 
     #[tactic(auto, using(crate::proofs::Listed::shown_bytes))]
     fn fmt<W: fmt::Write>(&self, f: &mut fmt::Formatter<W>) -> fmt::Result
-        ensures writes { WritesOnOk W.Write.write_str_gives f.old result (shown self.now.between.now self.now.bytes.now) f.new }
+        ensures writes { WritesOnOk W.Write.write_str_gives f.old result
+            (shown self.now.between.now self.now.bytes.now) f.new }
         ensures worked { ShownBytes }
     {
         let [first, rest @ ..] = self.bytes else {

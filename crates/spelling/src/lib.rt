@@ -1,4 +1,5 @@
-// How questions and answers are spelt: bytes in hexadecimal, the words of a record, frames and replies, and a sample tag.
+// How questions and answers are spelt: bytes in hexadecimal, the words of a record, frames and replies, and a sample
+// tag.
 #![tactic(auto)]
 
 pub mod hexadecimal;

@@ -30,8 +30,8 @@ pub fn framed(heap: Global, code: u8, parameters: &[u8]) -> Result<Vec<u8>, Miss
     Ok(frame)
 }
 
-// A tag's reply, with its check value, or no bytes for none. Like `framed`, but each says by its own call what its buffer
-// holds, which a closure's contract could only say again.
+// A tag's reply, with its check value, or no bytes for none. Like `framed`, but each says by its own call what its
+// buffer holds, which a closure's contract could only say again.
 #[tactic(auto, using(crate::proofs::Listed::replies_listed))]
 pub fn replied(heap: Global, tag: &Tag, reply: Option<Reply>) -> Result<Vec<u8>, Misspelt>
     ensures ok { IfOk result (λ bytes. bytes.items ≡ reply_bytes tag.now reply) }

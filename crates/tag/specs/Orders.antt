@@ -1,11 +1,14 @@
 -- What a frame asks of the tags that hear it. Assumes nothing.
-use Rattle.std.specs.Prelude.{ℕ, ◌+◌, cond, List, nat_lt, slice_index}
+use Rattle.std.specs.Prelude.{ℕ, Bool, ◌+◌, cond, List, nat_lt, slice_index}
 use Rattle.protocol.specs.declared.command.Command.{Command}
 use Rattle.protocol.specs.declared.command.Command.TheVariants.{Select, UnselectNe, UnselectIdFlag, UnselectNoidFlag, Query, Scroll, Repeat, Reset, Read, Verify, Lock, Qlock, ReadFlexible, Write}
 use Rattle.protocol.specs.declared.command.Parameter.{Parameter}
 use Rattle.protocol.specs.declared.command.Parameter.TheVariants.{Serial, Address, Mask, Word, Data, Length}
+use Rattle.frame.specs.declared.request.Comparison.{Comparison}
 use Rattle.frame.specs.Openings.{Opening, refused, opened}
 use Rattle.frame.specs.Parts.{Part, bytes_of}
+use Rattle.record.specs.declared.Tag.{Tag}
+use Rattle.record.specs.Masks.{matches}
 
 -- An order, with the values of its parameters.
 pub data Order : Type 0 where
@@ -34,6 +37,10 @@ pub data Order : Type 0 where
 -- A parameter of one byte.
 abbrev pub byte_of : Parameter → List Part → ℕ
 byte_of p parts = slice_index (bytes_of p parts) 0
+
+-- Whether the masked bytes of a tag are those that a frame wants.
+abbrev pub is_matching : Tag → Comparison → Bool
+is_matching t wanted = matches t.memory wanted.address.part.now wanted.mask.part.now wanted.word.part.now
 
 abbrev pub asked : Command → List Part → Order
 asked Select parts = select (byte_of Address parts) (byte_of Mask parts) (bytes_of Word parts)

@@ -1,11 +1,12 @@
-// What each command does to a tag that it concerns. Tag and coin, tag and address are a receiver and its argument: methods
-// would have to stand in the crate of the tag's type, which knows nothing of replies.
+// What each command does to a tag that it concerns. Tag and coin, tag and address are a receiver and its argument:
+// methods would have to stand in the crate of the tag's type, which knows nothing of replies.
 ghost use Rattle.std.specs.Prelude.{◌≡◌, ◌-◌, false, not, if◌then◌else◌, Some, None};
-ghost use Rattle.record.specs.Masks.{matches};
 ghost use Rattle.record.specs.declared.State.TheVariants.{Ready};
 ghost use Rattle.record.specs.Records.{is_write_ok, bytes_from, locked_at, in_state, flagging, counting_to, permitting};
 ghost use Rattle.reply.specs.Replies.{data_in};
-ghost use Rattle.tag.specs.Steps.{joined, unselected, staying, drawn, in_turn, moved, verified, is_writable, written, locked, lock_status};
+ghost use Rattle.tag.specs.Orders.{is_matching};
+ghost use Rattle.tag.specs.Steps.{joined, unselected, staying, drawn, in_turn, moved, verified, is_writable, written, locked};
+ghost use Rattle.tag.specs.Steps.{lock_status};
 
 use frame::request::Comparison;
 use record::{SIZE, State, Tag, WriteMark};
@@ -23,14 +24,14 @@ pub(crate) fn join(tag: &mut Tag) -> Option<Reply>
 
 // Whether the masked bytes of a tag are those of the frame.
 pub(crate) fn is_matching(tag: &Tag, wanted: Comparison<'_>) -> bool
-    ensures { result ≡ matches tag.now.memory wanted.entry.address.part.now wanted.entry.mask.part.now wanted.entry.word.part.now }
+    ensures { result ≡ is_matching tag.now wanted.entry }
 {
     tag.matches(*wanted.address.part, *wanted.mask.part, wanted.word.part)
 }
 
 pub(crate) fn unselect_ne(tag: &mut Tag, wanted: Comparison<'_>) -> Option<Reply>
-    ensures after { tag.new ≡ unselected (not (matches tag.old.memory wanted.entry.address.part.now wanted.entry.mask.part.now wanted.entry.word.part.now)) tag.old }
-    ensures reply { data_in tag.new result ≡ staying (not (matches tag.old.memory wanted.entry.address.part.now wanted.entry.mask.part.now wanted.entry.word.part.now)) tag.old }
+    ensures after { tag.new ≡ unselected (not (is_matching tag.old wanted.entry)) tag.old }
+    ensures reply { data_in tag.new result ≡ staying (not (is_matching tag.old wanted.entry)) tag.old }
 {
     let differs = !is_matching(tag, wanted);
     unselect(tag, differs)
@@ -122,7 +123,8 @@ pub(crate) fn read(tag: &mut Tag, address: u8, more: u8) -> Option<Reply>
 
 pub(crate) fn verify(tag: &mut Tag, address: u8) -> Option<Reply>
     ensures after { tag.new ≡ verified tag.old }
-    ensures reply { data_in tag.new result ≡ (if is_write_ok tag.old.mark then Some (bytes_from tag.old.memory address 4) else None) }
+    ensures reply { data_in tag.new result
+        ≡ (if is_write_ok tag.old.mark then Some (bytes_from tag.old.memory address 4) else None) }
 {
     if !tag.mark.is_ok() {
         return None;

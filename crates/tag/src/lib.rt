@@ -1,5 +1,5 @@
-// What one tag of the chip SL3ICS31 does with a frame. Tag, what was opened and coin are three parameters: the tag is the
-// receiver, one opening serves a crowd, and each tag has a coin of its own.
+// What one tag of the chip SL3ICS31 does with a frame. Tag, what was opened and coin are three parameters: the tag is
+// the receiver, one opening serves a crowd, and each tag has a coin of its own.
 #![tactic(auto)]
 
 ghost use Rattle.std.specs.Prelude.{◌≡◌, length};
@@ -38,8 +38,8 @@ pub fn hear(tag: &mut Tag, bytes: &[u8], coin: bool) -> Option<Reply>
 }
 
 // Steps a tag on what opening a frame gave, and tells what it replies. The coin is what the tag draws at a QUERY: with
-// 1 it lets the others go first. A loop over tags spends its time here, so that a call would be felt; and where the loop
-// is for one command, the others fall away.
+// 1 it lets the others go first. A loop over tags spends its time here, so that a call would be felt; and where the
+// loop is for one command, the others fall away.
 #[inline(always)]
 pub fn step(tag: &mut Tag, opened: &Result<Frame<'_>, Refusal>, coin: bool) -> Option<Reply>
     ensures after { tag.new ≡ stepped (seen opened.now) coin tag.old }
@@ -98,8 +98,10 @@ fn advance(tag: &mut Tag, opened: &Result<Frame<'_>, Refusal>, coin: bool) -> Op
 // Obeys a command, if it concerns a tag in this state.
 #[inline(always)]
 fn obey(tag: &mut Tag, request: Request<'_>, coin: bool, permitted: Option<u8>) -> Option<Reply>
-    ensures after { tag.new ≡ obeyed (asked (command_of request.entry) (parts_of request.entry)) coin permitted tag.old }
-    ensures reply { data_in tag.new result ≡ answered (asked (command_of request.entry) (parts_of request.entry)) coin tag.old }
+    ensures after { tag.new
+        ≡ obeyed (asked (command_of request.entry) (parts_of request.entry)) coin permitted tag.old }
+    ensures reply { data_in tag.new result
+        ≡ answered (asked (command_of request.entry) (parts_of request.entry)) coin tag.old }
 {
     match (tag.state, request) {
         (State::Ready, Request::Select(wanted)) if is_matching(tag, wanted) => join(tag),
