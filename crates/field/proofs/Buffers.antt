@@ -28,6 +28,11 @@ delivered n reply b x y fits room e f =
     ∙ ap (λ (r : List ℕ). reply ++ r) (drop-append-le (length reply) (replicate n 0) (drop n b) inside ∙ ap (λ (r : List ℕ). r ++ drop n b) (drop-replicate (length reply) n 0))
     ∙ sym (append_assoc reply (replicate (n - length reply) 0) (drop n b))
 
+-- A reply written into a buffer that was cleared.
+pub written_cleared : (reply b : List ℕ) → length reply ≤ 258 → 258 ≤ length b
+    → leaving (writing reply (length (cleared b))) (cleared b) ≡ padded 258 reply ++ drop 258 b
+written_cleared reply b fits room = delivered 258 reply b (cleared b) _ fits room (cleared_long b room) refl
+
 behind : (b : List ℕ) (n : ℕ) → n ≡ min (length b) 258 → drop n b ≡ drop 258 b
 behind b n e =
     ⊎_elim (λ short. drop_all n b (omega (arith, e)) ∙ sym (drop_all 258 b (omega arith)))
