@@ -1,6 +1,7 @@
 -- A reply buffer: set to 00, and a reply laid over its front. Assumes nothing.
-use Rattle.std.proofs.Common.{◌≡◌, ℕ, ◌-◌, ◌≤◌, min, List, [], ◌++◌, length, take, drop, replicate, sym, refl, ap, ap₂, ◌∙◌, arith, le-ltb, ⊎_elim}
+use Rattle.std.proofs.Common.{◌≡◌, ℕ, ◌-◌, ◌≤◌, min, List, [], ◌++◌, length, take, drop, replicate, sym, refl, ap, ap₂, ◌∙◌, arith, le-ltb, lit≤, ⊎_elim, length-drop}
 use Rattle.std.proofs.lemmas.List.{append_assoc, length-append, length-replicate, length-take-le, drop-append-le, drop-replicate, drop_all}
+use Rattle.std.proofs.lemmas.Slice.{drop-append-drop}
 use Rattle.std.proofs.lemmas.Bool.{cases_lt}
 use Rattle.frame.specs.Makings.{leaving, writing}
 use Rattle.field.specs.Sends.{padded, cleared}
@@ -32,6 +33,17 @@ delivered n reply b x y fits room e f =
 pub written_cleared : (reply b : List ℕ) → length reply ≤ 258 → 258 ≤ length b
     → leaving (writing reply (length (cleared b))) (cleared b) ≡ padded 258 reply ++ drop 258 b
 written_cleared reply b fits room = delivered 258 reply b (cleared b) _ fits room (cleared_long b room) refl
+
+-- A buffer after a send that was heard: it is as long as before, so behind what was heard nothing has changed.
+pub drop_left : (front b x : List ℕ) → 258 ≤ length b → length x ≡ length b → x ≡ front ++ drop 258 b → drop 258 x ≡ drop 258 b
+drop_left front b x room keeps e =
+    let long : length front ≡ 258 = omega (arith, room, keeps, ap length e, length-append front (drop 258 b), length-drop 258 b) in
+    ap (drop 258) e ∙ drop-append-drop 258 b front 258 (lit≤ tt) long
+
+-- It may then be cleared.
+pub cleared_left : (front b x : List ℕ) → 258 ≤ length b → length x ≡ length b → x ≡ front ++ drop 258 b → cleared x ≡ padded 258 [] ++ drop 258 b
+cleared_left front b x room keeps e =
+    cleared_long x (omega (arith, room, keeps)) ∙ ap (λ (xs : List ℕ). padded 258 [] ++ xs) (drop_left front b x room keeps e)
 
 behind : (b : List ℕ) (n : ℕ) → n ≡ min (length b) 258 → drop n b ≡ drop 258 b
 behind b n e =

@@ -3,6 +3,17 @@ use Rattle.std.specs.Prelude.{◌≡◌, ℕ, ◌+◌, ◌%◌, ◌<◌, cond, �
 use Rattle.field.specs.declared.hearing.Hearing.{Hearing}
 use Rattle.field.specs.declared.hearing.Hearing.TheVariants.{Silence, Lone, Clash}
 use Rattle.field.specs.Airs.{Air, MayHear}
+use Rattle.layers.specs.declared.spoiler.Spoiler.{Spoiler}
+
+-- The field below, each how-many-th lone reply is spoiled, and how many came since the last that was.
+abbrev pub field_of : {F : Type 0} → Spoiler F → F
+field_of spoiler = spoiler.field
+
+abbrev pub period_of : {F : Type 0} → Spoiler F → ℕ
+period_of spoiler = spoiler.period
+
+abbrev pub count_of : {F : Type 0} → Spoiler F → ℕ
+count_of spoiler = spoiler.heard
 
 -- How many lone replies a hearing is.
 abbrev pub lones : Hearing → ℕ
