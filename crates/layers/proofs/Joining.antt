@@ -1,6 +1,6 @@
 -- Two lists of tags as one: what a send does to both together is what it does to each. Assumes nothing.
-use Rattle.std.proofs.Common.{◌≡◌, inl, inr, ℕ, zero, suc, ◌+◌, ◌/◌, ◌<◌, ◌≤◌, Bool, true, false, cond, List, [], ◌∷◌, ◌++◌, length, take, drop, MatchBool, Some, None, Ok, Option, sym, refl, ap, ◌∙◌, subst, ap₂, div-one, arith, le-leb, le-ltb}
-use borrow.Author.Tests.{lt-leb, ltb-false}
+use Rattle.std.proofs.Common.{◌≡◌, inl, inr, ℕ, zero, suc, ◌+◌, ◌/◌, ◌<◌, ◌≤◌, Bool, true, false, cond, List, [], ◌∷◌, ◌++◌, length, take, drop, MatchBool, Ok, sym, refl, ap, ◌∙◌, subst, ap₂, div-one, arith, le-leb, le-ltb}
+use borrow.Author.Tests.{lt-leb}
 use Rattle.std.proofs.lemmas.List.{length-take-le, map-append, append-nil, drop_all}
 use Rattle.std.specs.List.{slice_get}
 use Rattle.frame.specs.Openings.{Opening, opening}
@@ -136,14 +136,6 @@ when-fits b P Q e p = subst (λ (x : Bool). MatchBool x P Q) (sym e) p
 
 pub when_crowded : (b : Bool) (P Q : Type 0) → b ≡ false → Q → MatchBool b P Q
 when_crowded b P Q e q = subst (λ (x : Bool). MatchBool x P Q) (sym e) q
-
--- A send that is heard had room for every reply.
-pub room_of : (room : ℕ) → ◌≡◌ {A = Option ℕ} None (cond (is_short room) (Some 5) None) → 258 ≤ room
-room_of room e = go (is_short room) refl e
-  where
-    go : (b : Bool) → is_short room ≡ b → ◌≡◌ {A = Option ℕ} None (cond b (Some 5) None) → 258 ≤ room
-    go true d h = cc
-    go false d h = ltb-false room 258 d
 
 sent-stepped : (room : ℕ) (bytes : List ℕ) (row : ℕ) (tags : List Tag) → 258 ≤ room → sent_to room bytes row tags ≡ stepped_all (opening bytes) row tags
 sent-stepped room bytes row tags taken = rw (le-ltb room 258 taken) refl

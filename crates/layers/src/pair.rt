@@ -1,11 +1,11 @@
 // Two fields of any kinds, as one.
-ghost use Rattle.std.specs.Prelude.{◌≡◌, ◌≤◌, ◌&&◌, Ok, length, IfOk, IfErr, if◌then◌else◌, Some, None, MatchBool};
+ghost use Rattle.std.specs.Prelude.{◌≡◌, ◌≤◌, ◌&&◌, length, IfOk, IfErr, if◌then◌else◌, Some, None};
 ghost use Rattle.field.specs.Airs.{together};
 ghost use Rattle.field.specs.Declining.{declined_by};
 ghost use Rattle.field.specs.Sends.{row_behind, Answered};
 ghost use Rattle.field.proofs.Joins.{few_both, sized_both};
 ghost use Rattle.layers.specs.Listings.{PairCases};
-ghost use Rattle.layers.specs.Pairs.{left_of, right_of, fits, paired, joined, Halves, Split};
+ghost use Rattle.layers.specs.Pairs.{left_of, right_of, fits, paired, joined, HeardOfBoth, Split};
 
 use field::buffer::clear;
 use field::declined::Declined;
@@ -25,6 +25,7 @@ pub struct Pair<L, R> {
 
 impl<L: Field, R: Field> Pair<L, R> {
     // Both fields as one, or both back if they have more than 64 places.
+    #[tactic(auto, using(crate::proofs::Joining::splits, crate::proofs::Listed::pair_cases))]
     pub fn new(left: L, right: R) -> Result<Pair<L, R>, Declined<(L, R)>>
         ensures refusal { declined_by result
             ≡ (if fits (L.Field.tags left) (R.Field.tags right) then None else Some 6) }
@@ -64,16 +65,7 @@ impl<L: Field, R: Field> Field for Pair<L, R> {
     // It hears every lone reply as lone if both sides do.
     ghost faithful = { λ p. L.Field.faithful (left_of p) && R.Field.faithful (right_of p) };
 
-    ghost hears = { λ p bytes row answer q. Answered answer
-        (λ h. MatchBool (fits (L.Field.tags (left_of p)) (R.Field.tags (right_of p)))
-        (Halves bytes row
-        (L.Field.tags (left_of p)) (R.Field.tags (right_of p))
-        (L.Field.tags (left_of q)) (R.Field.tags (right_of q))
-        (λ a. L.Field.hears (left_of p) bytes row (Ok a) (left_of q))
-        (λ a. R.Field.hears (right_of p) bytes (row_behind (length (L.Field.tags (left_of p))) row) (Ok a)
-        (right_of q))
-        h)
-        (L.Field.hears (left_of p) bytes row (Ok h) (left_of q) × (right_of q ≡ right_of p))) p q };
+    ghost hears = { λ p bytes row answer q. Answered answer (HeardOfBoth L.Field R.Field bytes row p q) p q };
 
     ghost waits = { λ p us q. L.Field.waits (left_of p) us (left_of q)
         × R.Field.waits (right_of p) us (right_of q) };

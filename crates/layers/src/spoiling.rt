@@ -1,8 +1,7 @@
 // What a spoiler does.
-ghost use Rattle.std.specs.Prelude.{◌≡◌, ℕ, ◌+◌, ◌%◌, ◌<◌, false, Ok, IfOk, IfErr, if◌then◌else◌, Some, None, nat_eq};
-ghost use Rattle.frame.specs.Openings.{opening};
+ghost use Rattle.std.specs.Prelude.{◌≡◌, ℕ, ◌+◌, ◌%◌, ◌<◌, false, IfOk, IfErr, if◌then◌else◌, Some, None, nat_eq};
 ghost use Rattle.field.specs.Declining.{declined_by};
-ghost use Rattle.field.specs.Sends.{on_air, Answered};
+ghost use Rattle.field.specs.Sends.{Answered};
 ghost use Rattle.layers.specs.Listings.{SpoilerCases};
 ghost use Rattle.layers.specs.Spoilers.{field_of, period_of, count_of, Spoils};
 
@@ -66,10 +65,7 @@ impl<F: Field> Field for Spoiler<F> {
 
     ghost faithful = { λ _. false };
 
-    ghost hears = { λ s bytes row answer t. Answered answer
-        (λ h. Spoils (period_of s) (count_of s) (count_of t) (on_air (opening bytes) row (F.Field.tags (field_of s)))
-        (λ a. F.Field.hears (field_of s) bytes row (Ok a) (field_of t)) h
-        × (period_of t ≡ period_of s)) s t };
+    ghost hears = { λ s bytes row answer t. Answered answer (Spoils F.Field bytes row s t) s t };
 
     ghost waits = { λ s us t. F.Field.waits (field_of s) us (field_of t)
         × (count_of t ≡ count_of s) × (period_of t ≡ period_of s) };
@@ -82,6 +78,7 @@ impl<F: Field> Field for Spoiler<F> {
         self.field.pass(microseconds);
     }
 
+    #[tactic(auto, using(field::proofs::Buffers::cleared_again, field::proofs::Buffers::room_of))]
     fn send(&mut self, bytes: &[u8], row: u64, buffer: &mut [u8]) -> Result<Hearing, Refusal> {
         let heard = self.field.send(bytes, row, buffer)?;
         let Hearing::Lone = heard else {

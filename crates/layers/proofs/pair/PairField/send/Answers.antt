@@ -2,7 +2,8 @@ use Rattle.std.proofs.Common.{rules, ℕ, ◌+◌, ◌≤◌, List, length, repl
 use Rattle.std.proofs.lemmas.Bool.{and_parts}
 use Rattle.std.proofs.lemmas.Grind.{common_steps}
 use Rattle.record.specs.declared.Tag.{Tag}
-use Rattle.layers.proofs.Joining.{room_of, both_sent, both_in_place, both_may_be, both_plain, both_left}
+use Rattle.field.proofs.Buffers.{room_of}
+use Rattle.layers.proofs.Joining.{both_sent, both_in_place, both_may_be, both_plain, both_left}
 use Rattle.layers.proofs.pair.PairField.send.Goals as goal
 
 pub returns : goal.returns
