@@ -160,6 +160,15 @@ missed : (b : Bool) → cond b 1 0 ≤ 0 → b ≡ false
 missed true h = absurd (omega arith)
 missed false h = refl
 
+-- Where no serial number is picked, no tag is.
+pub none_picked : (test : Tag → Bool) (tags : List Tag) → ((serial : List ℕ) → tally test serial tags ≡ 0) → AllByRecursion (λ t. test t ≡ false) tags
+none_picked test [] h = tt
+none_picked test (t ∷ ts) h =
+    let s : List ℕ = serial_of t in
+    let here : point test s t ≡ 0 = omega (arith, tally-cons test s t ts, h s) in
+    let unpicked : cond {A = ℕ} (test t) 1 0 ≡ 0 = ap (λ (n : ℕ). cond (test t) n 0) (sym (hit_self s)) ∙ here in
+    (missed (test t) (omega arith), none_picked test ts (λ serial. omega (arith, tally-cons test serial t ts, h serial)))
+
 lone_rest : (serial : List ℕ) (tags : List Tag) → turns tags ≡ [] → times serial (map serial_of tags) ≤ 0 → AllByRecursion (IsLone serial) tags
 lone_rest serial [] e h = tt
 lone_rest serial (t ∷ ts) e h =

@@ -5,6 +5,7 @@ pub mod Empties
 pub mod Ends
 pub mod Frames
 pub mod Listed
+pub mod Misses
 pub mod Outcomes
 pub mod Plays
 pub mod Readings

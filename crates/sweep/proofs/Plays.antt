@@ -16,7 +16,7 @@ use Rattle.field.specs.Airs.{Air, MayHear}
 use Rattle.field.specs.Sends.{stepped_all, on_air, Sized}
 use Rattle.slot.specs.Commands.{select, query, scroll, read}
 use Rattle.slot.specs.Rules.{Setting, Phase, fresh, in_silence, in_lone, in_clash, in_reading, ended, Play, beginning, Deed, stops, opens, lists, reads, closes, commanding, opening_slot, coins_at, place_behind, deed_in, air_of, opened_by, read_by, done, went, may_hear, played, Heard}
-use Rattle.sweep.specs.Fates.{is_due, fate_of, times, due_serials, Distinct, Fated, Fates}
+use Rattle.sweep.specs.Fates.{is_due, fate_of, times, due_serials, Distinct, Fates}
 use Rattle.sweep.proofs.Frames.{serial_heard}
 use Rattle.sweep.proofs.Tags.{is_active, is_left_by, has_turn, outcome, Fit, Readable, Unheard, Takes, Opens, select_each, query_each, scroll_each, read_each, select_heard, query_heard, scroll_heard}
 use Rattle.sweep.proofs.Crowds.{tally, turns, voices, tally-le, outcomes_after, all_after, active_after, air_after, all_of, tally_same, no_turn, no_turns, closed, none_active, lone, all_readable, apart, same_serials, AreSized, turns_sized, times_push}
@@ -35,14 +35,23 @@ pub record Reading (before : List Tag) (waiting : ℕ) (serials : List (List ℕ
   pub ready : AllByRecursion (Readable lone_one waiting) tags
   pub counts : (serial : List ℕ) → times serial serials + tally (is_left_by lone_one) serial tags ≡ times serial (due_serials before)
 
--- What holds in each phase.
+-- What a whole sweep has done.
+pub record Over (before : List Tag) (p : Play) : Type 0 where
+  pub tags : p.tags ≡ map fate_of before
+  pub serials : (serial : List ℕ) → times serial p.serials ≡ times serial (due_serials before)
+
+-- What holds in each phase. A lone slot asks that no serial number is there twice.
 abbrev pub Stands : List Tag → Play → Phase → Type 0
 Stands before p fresh = (p.tags ≡ before) × (p.serials ≡ [])
 Stands before p in_silence = Between before p.waiting p.serials p.tags × (turns p.tags ≡ [])
-Stands before p (in_lone serial) = Between before p.waiting p.serials p.tags × (turns p.tags ≡ serial ∷ [])
+Stands before p (in_lone serial) = Between before p.waiting p.serials p.tags × (turns p.tags ≡ serial ∷ []) × Distinct before
 Stands before p in_clash = Between before p.waiting p.serials p.tags
 Stands before p (in_reading serial) = Reading before p.waiting p.serials serial p.tags
-Stands before p (ended n) = n ≡ 0 → Fated before p
+Stands before p (ended n) = n ≡ 0 → Over before p
+
+-- Where something is heard as lone, no serial number is there twice.
+abbrev pub Clears : List Tag → Hearing → Type 0
+Clears before h = h ≡ Lone → Distinct before
 
 -- It holds after a deed, whatever may be heard.
 abbrev StandsAfter : List Tag → Hearing → Play → Deed → Type 0
@@ -65,30 +74,31 @@ units [] = tt
 units (t ∷ ts) = (tt, units ts)
 
 -- A slot, by the serial numbers that are replied.
-opened : (before : List Tag) (l : List (List ℕ)) (h : Hearing) (p : Play) → turns p.tags ≡ l → MayHear (voices l) h → AreSized l
+opened : (before : List Tag) (l : List (List ℕ)) (h : Hearing) (p : Play) → Clears before h → turns p.tags ≡ l → MayHear (voices l) h → AreSized l
     → Between before p.waiting p.serials p.tags → Stands before p (opened_by h (voices l))
-opened before [] Silence p e m z b = (b, e)
-opened before [] Lone p e m z b = cc
-opened before [] Clash p e m z b = b
-opened before (s ∷ []) Silence p e m z b = ⊎_elim (λ x. cc) (λ x. cc) m
-opened before (s ∷ []) Lone p e m z b = subst (λ (x : List ℕ). Stands before p (in_lone x)) (sym (serial_heard s z.0)) (b, e)
-opened before (s ∷ []) Clash p e m z b = b
-opened before (s ∷ r ∷ rest) Silence p e m z b = cc
-opened before (s ∷ r ∷ rest) Lone p e m z b = cc
-opened before (s ∷ r ∷ rest) Clash p e m z b = b
+opened before [] Silence p clear e m z b = (b, e)
+opened before [] Lone p clear e m z b = cc
+opened before [] Clash p clear e m z b = b
+opened before (s ∷ []) Silence p clear e m z b = ⊎_elim (λ x. cc) (λ x. cc) m
+opened before (s ∷ []) Lone p clear e m z b = subst (λ (x : List ℕ). Stands before p (in_lone x)) (sym (serial_heard s z.0)) (b, e, clear refl)
+opened before (s ∷ []) Clash p clear e m z b = b
+opened before (s ∷ r ∷ rest) Silence p clear e m z b = cc
+opened before (s ∷ r ∷ rest) Lone p clear e m z b = cc
+opened before (s ∷ r ∷ rest) Clash p clear e m z b = b
 
-module _ (before : List Tag) (sized : AreSized (map serial_of before)) (distinct : Distinct before) where
+module _ (before : List Tag) (sized : AreSized (map serial_of before)) where
   sized_still : (tags : List Tag) → map outcome tags ≡ map fate_of before → AreSized (map serial_of tags)
   sized_still tags e = subst AreSized (sym (same_serials tags before e)) sized
 
-  distinct_still : (tags : List Tag) → map outcome tags ≡ map fate_of before → Distinct tags
-  distinct_still tags e serial = subst (λ (l : List (List ℕ)). times serial l ≤ 1) (sym (same_serials tags before e)) (distinct serial)
+  distinct_still : (tags : List Tag) → map outcome tags ≡ map fate_of before → Distinct before → Distinct tags
+  distinct_still tags e distinct serial =
+      subst (λ (l : List (List ℕ)). times serial l ≤ 1) (sym (same_serials tags before e)) (distinct serial)
 
   slot : (c : Command) (frame : List ℕ) (row g next : ℕ) (h : Hearing) (p : Play) (Before : Tag → Type 0) (goal : Tag → Tag) (chosen : Tag → Bool)
-      → Takes (order (opening frame)) Before (Fit g) goal chosen → Opens (order (opening frame)) → AllByRecursion Before p.tags → map goal p.tags ≡ map fate_of before
+      → Clears before h → Takes (order (opening frame)) Before (Fit g) goal chosen → Opens (order (opening frame)) → AllByRecursion Before p.tags → map goal p.tags ≡ map fate_of before
       → ((serial : List ℕ) → times serial p.serials + tally chosen serial p.tags ≡ times serial (due_serials before))
       → StandsAfter before h p (opens c frame row g next)
-  slot c frame row g next h p Before goal chosen each heard all goals counts m =
+  slot c frame row g next h p Before goal chosen clear each heard all goals counts m =
       let after : List Tag = stepped_all (opening frame) row p.tags in
       let air : on_air (opening frame) row p.tags ≡ voices (turns after) = air_after (opening frame) heard row p.tags in
       let outcomes : map outcome after ≡ map fate_of before = outcomes_after (opening frame) Before (Fit g) goal chosen each row p.tags all ∙ goals in
@@ -100,13 +110,13 @@ module _ (before : List Tag) (sized : AreSized (map serial_of before)) (distinct
             ap (λ (n : ℕ). times serial p.serials + n) (active_after (opening frame) Before (Fit g) goal chosen each serial row p.tags all) ∙ counts serial;
       } in
       subst (λ (a : Air). Stands before (done (opens c frame row g next) h p) (opened_by h a)) (sym air)
-      (opened before (turns after) h (done (opens c frame row g next) h p) refl (subst (λ (a : Air). MayHear a h) air m)
+      (opened before (turns after) h (done (opens c frame row g next) h p) clear refl (subst (λ (a : Air). MayHear a h) air m)
       (turns_sized after (sized_still after outcomes)) b)
 
   -- A serial number that is listed.
   listed : (serial : List ℕ) (h : Hearing) (p : Play) → Stands before p (in_lone serial) → StandsAfter before h p (lists serial)
-  listed serial h p (b, e) m =
-      let alone = lone serial p.tags e (distinct_still p.tags b.outcomes serial) in
+  listed serial h p (b, e, distinct) m =
+      let alone = lone serial p.tags e (distinct_still p.tags b.outcomes distinct serial) in
       record {
         size = (subst AreSized e (turns_sized p.tags (sized_still p.tags b.outcomes))).0;
         outcomes = b.outcomes;
@@ -168,49 +178,45 @@ module _ (before : List Tag) (sized : AreSized (map serial_of before)) (distinct
     was_read Clash = reading_on
 
   -- The closing REPEAT.
-  closing : (h : Hearing) (p : Play) → Stands before p in_silence → p.waiting ≡ 0 → Fated before (done closes h p)
+  closing : (h : Hearing) (p : Play) → Stands before p in_silence → p.waiting ≡ 0 → Over before (done closes h p)
   closing h p (b, e) z =
       let fits : AllByRecursion (Fit 0) p.tags = subst (λ (n : ℕ). AllByRecursion (Fit n) p.tags) z b.fits in
       let none = no_turn p.tags e in
-      let same : (serial : List ℕ) → times serial p.serials ≡ times serial (due_serials before) =
-      λ serial. omega (arith, b.counts serial, none_active serial p.tags fits none) in
       record {
         tags = closed 0 p.tags fits none ∙ b.outcomes;
-        serials = record {
-          same = same;
-          once = λ serial. omega (arith, same serial, tally-le is_due serial before, distinct serial);
-        };
+        serials = λ serial. omega (arith, b.counts serial, none_active serial p.tags fits none);
       }
 
   -- Each deed, by the phase.
-  deed : (set : Setting) (h : Hearing) (p : Play) (phase : Phase) → p.phase ≡ phase → Stands before p phase → StandsAfter before h p (deed_in set p phase)
-  deed set h p fresh e k =
+  deed : (set : Setting) (h : Hearing) (p : Play) (phase : Phase) → Clears before h → p.phase ≡ phase → Stands before p phase
+      → StandsAfter before h p (deed_in set p phase)
+  deed set h p fresh clear e k =
       within_room before set h p (opens Select select 0 0 0)
-      (slot Select select 0 0 0 h p (λ t. Unit {0}) fate_of is_due select_each select_heard (units p.tags) (ap (map fate_of) k.0)
+      (slot Select select 0 0 0 h p (λ t. Unit {0}) fate_of is_due clear select_each select_heard (units p.tags) (ap (map fate_of) k.0)
       (λ serial. ap₂ (λ (l : List (List ℕ)) (ts : List Tag). times serial l + tally is_due serial ts) k.1 k.0 ∙ omega arith))
-  deed set h p in_silence e k =
+  deed set h p in_silence clear e k =
       cond_both (eqb p.waiting 0) (commanding set p closes) (opening_slot set p (opens Scroll scroll 0 (p.waiting - 1) p.next)) (StandsAfter before h p)
       (λ z. within_budget before set h p closes (λ m. λ zero. closing h p k (eqb-true p.waiting 0 z)))
       (λ z. within_room before set h p (opens Scroll scroll 0 (p.waiting - 1) p.next)
-      (slot Scroll scroll 0 (p.waiting - 1) p.next h p (Fit p.waiting) outcome is_active (scroll_each p.waiting) scroll_heard k.0.fits k.0.outcomes k.0.counts))
-  deed set h p (in_lone serial) e k =
+      (slot Scroll scroll 0 (p.waiting - 1) p.next h p (Fit p.waiting) outcome is_active clear (scroll_each p.waiting) scroll_heard k.0.fits k.0.outcomes k.0.counts))
+  deed set h p (in_lone serial) clear e k =
       cond_both (leb set.serial_room (length p.serials)) (stops 9) (lists serial) (StandsAfter before h p) (λ z. stopped before h p 9 (λ x. omega arith))
       (λ z. listed serial h p k)
-  deed set h p in_clash e k =
+  deed set h p in_clash clear e k =
       cond_both (eqb p.waiting 255) (stops 7)
       (opening_slot set p (opens Query query (coins_at set.coins p.next) (p.waiting + 1) (place_behind set.coins p.next))) (StandsAfter before h p)
       (λ z. stopped before h p 7 (λ x. omega arith))
       (λ z. within_room before set h p (opens Query query (coins_at set.coins p.next) (p.waiting + 1) (place_behind set.coins p.next))
-      (slot Query query (coins_at set.coins p.next) (p.waiting + 1) (place_behind set.coins p.next) h p (Fit p.waiting) outcome is_active
+      (slot Query query (coins_at set.coins p.next) (p.waiting + 1) (place_behind set.coins p.next) h p (Fit p.waiting) outcome is_active clear
       (query_each p.waiting) query_heard k.fits k.outcomes k.counts))
-  deed set h p (in_reading serial) e k = within_budget before set h p (reads serial) (λ m. was_read serial p k h)
-  deed set h p (ended n) e k = λ m. subst (λ (phase : Phase). Stands before p phase) (sym e) k
+  deed set h p (in_reading serial) clear e k = within_budget before set h p (reads serial) (λ m. was_read serial p k h)
+  deed set h p (ended n) clear e k = λ m. subst (λ (phase : Phase). Stands before p phase) (sym e) k
 
-  pub deeds : (set : Setting) (hs : List Hearing) (p : Play) → Stands before p p.phase → Heard set hs p
+  pub deeds : (set : Setting) (hs : List Hearing) (p : Play) → AllByRecursion (Clears before) hs → Stands before p p.phase → Heard set hs p
       → Stands before (played set hs p) (played set hs p).phase
   unfolding played Heard went may_hear
-  deeds set [] p k heard = k
-  deeds set (h ∷ hs) p k heard = deeds set hs (went set h p) (deed set h p p.phase refl k heard.0) heard.1
+  deeds set [] p clear k heard = k
+  deeds set (h ∷ hs) p clear k heard = deeds set hs (went set h p) clear.1 (deed set h p p.phase clear.0 refl k heard.0) heard.1
 
 -- Serial numbers have eight bytes, as memories have 56.
 serials_each : (tags : List Tag) → AllByRecursion (λ t. length t.memory ≡ 56) tags → AreSized (map serial_of tags)
@@ -222,7 +228,23 @@ serials_each (t ∷ ts) h =
 pub sized_serials : (tags : List Tag) → Sized tags → AreSized (map serial_of tags)
 sized_serials tags sized = serials_each tags (recursion_from_All (λ t. length t.memory ≡ 56) tags sized)
 
+pub over : (set : Setting) (hs : List Hearing) (tags : List Tag) → Sized tags → AllByRecursion (Clears tags) hs → Heard set hs (beginning tags)
+    → (played set hs (beginning tags)).phase ≡ ended 0 → Over tags (played set hs (beginning tags))
+over set hs tags sized clear heard e =
+    subst (λ (phase : Phase). Stands tags (played set hs (beginning tags)) phase) e
+    (deeds tags (sized_serials tags sized) set hs (beginning tags) clear (refl, refl) heard) refl
+
+all_clear : (tags : List Tag) → Distinct tags → (hs : List Hearing) → AllByRecursion (Clears tags) hs
+all_clear tags distinct [] = tt
+all_clear tags distinct (h ∷ hs) = ((λ lone. distinct), all_clear tags distinct hs)
+
 pub fates : Fates
 fates set hs tags sized distinct heard e =
-    subst (λ (phase : Phase). Stands tags (played set hs (beginning tags)) phase) e
-    (deeds tags (sized_serials tags sized) distinct set hs (beginning tags) (refl, refl) heard) refl
+    let o = over set hs tags sized (all_clear tags distinct hs) heard e in
+    record {
+      tags = o.tags;
+      serials = record {
+        same = o.serials;
+        once = λ serial. omega (arith, o.serials serial, tally-le is_due serial tags, distinct serial);
+      };
+    }

@@ -15,8 +15,8 @@ use Rattle.sweep.specs.Whole.{Outcome, Reported}
 abbrev pub narrow : ℕ → ℕ → Setting
 narrow row serial_room = record { coins = row ∷ []; budget = 2; slot_room = 1; serial_room = serial_room }
 
--- Whatever the recorded row holds, and however much room the list of serial numbers has, such a sweep of no tags is whole,
--- with one silent slot and 2 commands.
+-- Whatever the recorded row holds, and however much room the list of serial numbers has, such a sweep of no tags is
+-- whole, with one silent slot and 2 commands.
 unfoldable pub EmptySweeps : Type 0
 EmptySweeps =
     AllByRecursion {X = Report × List SlotRow}

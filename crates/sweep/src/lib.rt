@@ -18,7 +18,7 @@ use slot::working::MOST_ROWS;
 use working::work;
 
 // Sweeps a field: splits each clash and reads each lone tag, until the sweep is whole or stopped.
-#[tactic(auto, using(crate::proofs::Empties::empty_sweeps, crate::proofs::Listed::sweep_cases, crate::proofs::Listed::worked_fates))]
+#[tactic(auto, using(crate::proofs::Listed::listings))]
 pub fn sweep<F: Field>(
     field: &mut F,
     coins: &[u64],
