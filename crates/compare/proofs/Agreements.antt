@@ -1,5 +1,8 @@
 -- Two fields that begin alike agree as long as the run is fair. Assumes nothing.
-use Rattle.std.proofs.Common.{◌≡◌, ℕ, ◌+◌, ◌≤◌, Bool, true, false, cond, List, [], ◌∷◌, map, length, sym, refl, ap, ◌∙◌, ap₂, subst, arith}
+use Rattle.std.proofs.Common.{◌≡◌, ℕ, ◌+◌, ◌≤◌, Bool, true, false, cond, List, [], ◌∷◌, map, length, Some, None, Ok, Err, Result, sym, refl, ap, ◌∙◌, ap₂, subst, arith}
+use Rattle.std.proofs.lemmas.Bool.{true≢false}
+use Rattle.std.specs.Prelude.{if◌then◌else◌, OnOk}
+use Rattle.protocol.specs.declared.refusal.Refusal.{Refusal}
 use Rattle.frame.specs.Openings.{opening}
 use Rattle.record.specs.declared.Tag.{Tag}
 use Rattle.field.specs.declared.field.Field.{Ghosts as Kind}
@@ -15,7 +18,7 @@ use Rattle.history.specs.declared.call.Call.TheVariants as call
 use Rattle.history.specs.declared.desk.Desk.{Desk}
 use Rattle.history.specs.Histories.{Moment, History}
 use Rattle.history.specs.Meetings.{Step, send, gap, sweep, step_of, steps_of, Account, refused, heard, passed, swept, Met}
-use Rattle.history.specs.Runs.{Ran}
+use Rattle.history.specs.Runs.{refusal_in, Ran}
 use Rattle.compare.specs.Laws.{IsOneCall, AreOneList, IsClean, IsFair, SameAccounts, Agreed, Fair, AllAgreed, Law, Together}
 
 -- What a clean sweep leaves and reports.
@@ -169,11 +172,17 @@ one_list (c ∷ cs) [] es h k = absurd (omega arith)
 one_list (c ∷ cs) (d ∷ ds) [] h k = absurd (omega arith)
 one_list (c ∷ cs) (d ∷ ds) (e ∷ es) h k = (one_call c d e, one_list cs ds es (omega arith) (omega arith))
 
+-- A run with desks enough is not refused.
+pub ran : (b : Bool) (r : Result (Unit {0}) Refusal) (P : Type 0) → b ≡ false → refusal_in r ≡ (if b then Some 5 else None) → OnOk r P → P
+ran true r P enough e p = absurd (true≢false enough)
+ran false (Ok x) P enough e p = p
+ran false (Err x) P enough e p = cc
+
 -- A run of each over one list of calls.
 pub together : {L R : Type 0} (on_left : Kind L) (on_right : Kind R) (calls : List Call) (a b : L) (c d : R) (ds ds_after es es_after : List Desk)
-    → length calls ≤ length ds → length calls ≤ length es → Ran on_left calls ds ds_after a b → Ran on_right calls es es_after c d
+    → Ran on_left calls ds ds_after a b → Ran on_right calls es es_after c d → length calls ≤ length ds → length calls ≤ length es
     → Together on_left on_right calls a b c d ds ds_after es es_after
-together on_left on_right calls a b c d ds ds_after es es_after few enough r s =
+together on_left on_right calls a b c d ds ds_after es es_after r s few enough =
     record {
       left_run = r;
       right_run = s;

@@ -1,6 +1,6 @@
 // Playing calls on two fields.
-ghost use Rattle.std.specs.Prelude.{◌≡◌, if◌then◌else◌, length, Some, None, OnOk, OnErr, min, nat_lt};
-ghost use Rattle.history.specs.Runs.{refusal_in};
+ghost use Rattle.std.specs.Prelude.{◌≡◌, ◌≤◌, ◌||◌, if◌then◌else◌, length, Some, None, OnOk, OnErr, nat_lt};
+ghost use Rattle.history.specs.Runs.{refusal_in, Ran};
 ghost use Rattle.compare.specs.Laws.{Together, Law};
 
 use field::field::Field;
@@ -19,17 +19,42 @@ pub fn play<L: Field, R: Field>(
     left_desks: &mut [Desk<'_>],
     right_desks: &mut [Desk<'_>],
 ) -> Result<(), Refusal>
-    ensures refusal { refusal_in result ≡
-        (if nat_lt (min (length left_desks.old) (length right_desks.old)) (length calls.now) then Some 5 else None) }
+    ensures refusal { refusal_in result ≡ (if nat_lt (length left_desks.old) (length calls.now)
+        || nat_lt (length right_desks.old) (length calls.now) then Some 5 else None) }
     ensures run { OnOk result (Together L.Field R.Field calls.now left.old left.new right.old right.new
         left_desks.old left_desks.new right_desks.old right_desks.new) }
     ensures law { Law L.Field R.Field }
     ensures fields { OnErr result ((left.new ≡ left.old) × (right.new ≡ right.old)) }
     ensures desks { OnErr result ((left_desks.new ≡ left_desks.old) × (right_desks.new ≡ right_desks.old)) }
 {
-    if right_desks.len() < calls.len() {
+    if left_desks.len() < calls.len() || right_desks.len() < calls.len() {
         return Err(Refusal::Buffer);
     }
-    playing::play(left, calls, left_desks)?;
-    playing::play(right, calls, right_desks)
+    play_both(left, right, calls, left_desks, right_desks);
+    Ok(())
+}
+
+// The same, where there are desks enough.
+fn play_both<L: Field, R: Field>(
+    left: &mut L,
+    right: &mut R,
+    calls: &[Call<'_>],
+    left_desks: &mut [Desk<'_>],
+    right_desks: &mut [Desk<'_>],
+)
+    requires on_left { length calls.now ≤ length left_desks.old }
+    requires on_right { length calls.now ≤ length right_desks.old }
+    ensures { Together L.Field R.Field calls.now left.old left.new right.old right.new
+        left_desks.old left_desks.new right_desks.old right_desks.new }
+{
+    play_on(left, calls, left_desks);
+    play_on(right, calls, right_desks);
+}
+
+// On one of them, with desks enough: such a run is not refused.
+fn play_on<F: Field>(field: &mut F, calls: &[Call<'_>], desks: &mut [Desk<'_>])
+    requires { length calls.now ≤ length desks.old }
+    ensures { Ran F.Field calls.now desks.old desks.new field.old field.new }
+{
+    let _ = playing::play(field, calls, desks);
 }
