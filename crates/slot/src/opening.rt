@@ -1,9 +1,13 @@
 // Sending a command that opens a slot.
-ghost use Rattle.std.specs.Prelude.{◌≡◌, ℕ, ◌+◌, ◌%◌, ◌<◌, false, [], length, nat_le};
+ghost use Rattle.std.specs.Prelude.{◌≡◌, ℕ, ◌+◌, ◌%◌, ◌<◌, false, [], ◌∷◌, ◌++◌, length, nat_le};
+ghost use Rattle.frame.specs.Openings.{opening};
+ghost use Rattle.field.specs.Promises.{AfterSend};
+ghost use Rattle.field.specs.Sends.{on_air};
 ghost use Rattle.protocol.specs.Commands.{length_of};
+ghost use Rattle.rows.specs.Filling.{rows_of, is_full, Behind};
 ghost use Rattle.slot.specs.Commands.{frame_of, wanted};
 ghost use Rattle.slot.specs.Countings.{counted};
-ghost use Rattle.slot.specs.Rules.{coins_at};
+ghost use Rattle.slot.specs.Rules.{coins_at, opened_by};
 ghost use Rattle.slot.specs.Slots.{heard_in, phase_of, phase_with, stand_of, standing, MayOpen};
 
 use crate::asking::{Answer, ask};
@@ -101,7 +105,8 @@ pub(crate) fn coins_at(coins: &[u64], place: usize) -> u64
     coins[place % coins.len()]
 }
 
-// Sends a command with parameters that fit it, unless the budget is spent or the list of slots full, and opens its slot.
+// Sends a command with parameters that fit it, and lists and opens its slot, unless the budget is spent or the list of
+// slots full.
 fn open_slot<F: Field>(
     field: &mut F,
     command: Command,
@@ -120,11 +125,37 @@ fn open_slot<F: Field>(
     if lists.slots.is_full() {
         return Err(stand.stopped(Stop::Full));
     }
+    Ok(hear_slot(field, command, parameters, row, stand, lists))
+}
+
+// The same, where neither is so.
+fn hear_slot<F: Field>(
+    field: &mut F,
+    command: Command,
+    parameters: &[u8],
+    row: u64,
+    stand: Stand,
+    lists: &mut Lists<'_>,
+) -> Slot
+    requires fits { length parameters.now + 3 ≡ length_of command }
+    requires budget { stand.counts.commands < 65535 }
+    requires room { is_full lists.old.slots ≡ false }
+    ensures sent { AfterSend F.Field (frame_of command parameters.now) row
+        (heard_in result) field.old field.new }
+    ensures phase { phase_of result ≡ opened_by
+        (heard_in result) (on_air (opening (frame_of command parameters.now)) row (F.tags field.old)) }
+    ensures stand { stand_of result ≡
+        standing stand.budget stand.waiting stand.next (counted (heard_in result) stand.counts) }
+    ensures slots { rows_of lists.new.slots ≡ rows_of lists.old.slots
+        ++ record { command = command; hearing = heard_in result; waiting = stand.waiting } ∷ [] }
+    ensures behind { Behind lists.old.slots lists.new.slots }
+    ensures serials { lists.new.serials ≡ lists.old.serials }
+{
     let answer = ask(field, command, parameters, row);
     let _ = lists.slots.push(SlotRow {
         command,
         hearing: answer.hearing,
         waiting: stand.waiting,
     });
-    Ok(stand.opened(answer))
+    stand.opened(answer)
 }
