@@ -1,2 +1,4 @@
+pub mod Benches
 pub mod Listings
 pub mod Tables
+pub mod Voices

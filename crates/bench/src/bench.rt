@@ -1,63 +1,17 @@
 // A table of tags that is the caller's, played as a field.
-ghost use Rattle.std.specs.Prelude.{◌≡◌, ◌≤◌, true, [], length, IfErr, if◌then◌else◌, Some, None, OnOk, nat_le};
-ghost use Rattle.field.specs.Airs.{plainly};
-ghost use Rattle.field.specs.Declining.{declined_by};
-ghost use Rattle.field.specs.Sends.{on_air};
+ghost use Rattle.std.specs.Prelude.{◌≡◌, ◌≤◌, length};
+ghost use Rattle.field.specs.Sends.{Sized};
 ghost use Rattle.bench.specs.Listings.{Finds};
 ghost use Rattle.bench.specs.Tables.{place_of};
 
-use crate::walk::{pass_all, step_all};
-use field::declined::Declined;
-use field::field::{Field, PLACES};
-use field::sound::Sound;
-use frame::opening::Frame;
-use protocol::refusal::Refusal;
 use record::Tag;
 
+// At most 64 places, and each memory has its 56 bytes, which a tag in a slice does not have from its type.
 #[derive(Drop)]
 pub struct Bench<'a> {
-    table: &'a mut [Tag],
+    pub(crate) table: &'a mut [Tag],
     ghost few: { length table.now ≤ 64 },
-}
-
-impl<'a> Bench<'a> {
-    // A bench with no places.
-    pub fn new() -> Bench<'a>
-        ensures { result.table.now ≡ [] }
-    {
-        Bench { table: &mut [] }
-    }
-
-    // Gives the bench a table in the place of the one that it has. The tags are changed in their places.
-    pub fn set_table(&mut self, table: &'a mut [Tag]) -> Result<(), Declined<&'a mut [Tag]>>
-        ensures refusal { declined_by result ≡ (if nat_le (length table.old) 64 then None else Some 6) }
-        ensures table { OnOk result (self.new.table ≡ table.entry) }
-        ensures same { IfErr result (λ e. (self.new ≡ self.old) × (e.given ≡ table.entry)) }
-    {
-        if table.len() > PLACES {
-            return Err(Declined {
-                refusal: Refusal::Crowd,
-                given: table,
-            });
-        }
-        self.table = table;
-        Ok(())
-    }
-
-    // Gives the table back.
-    pub fn into_table(self) -> &'a mut [Tag]
-        ensures { result ≡ self.entry.table }
-    {
-        let Bench { table } = self;
-        table
-    }
-
-    // The first place that has a serial number.
-    pub fn find(&self, serial: &[u8]) -> Option<usize>
-        ensures { result ≡ place_of self.now.table.now serial.now }
-    {
-        place_of(self.table, serial)
-    }
+    ghost sized: { Sized table.now },
 }
 
 // The first place of a table that has a serial number.
@@ -67,32 +21,4 @@ pub fn place_of(table: &[Tag], serial: &[u8]) -> Option<usize>
     ensures worked { Finds }
 {
     table.iter().position(|tag| tag.has_serial(serial))
-}
-
-impl<'a> Field for Bench<'a> {
-    ghost tags = { λ b. b.table.now };
-
-    ghost few = { λ b. b.few };
-
-    ghost faithful = { true };
-
-    ghost hears = { λ b frame row h c. (h ≡ plainly (on_air frame row b.table.now)) × (c.table.ghost_name ≡ b.table.ghost_name) };
-
-    ghost waits = { λ b _ c. c.table.ghost_name ≡ b.table.ghost_name };
-
-    fn places(&self) -> usize {
-        self.table.len()
-    }
-
-    fn tag(&self, place: usize) -> Option<&Tag> {
-        self.table.get(place)
-    }
-
-    fn pass(&mut self, microseconds: u32) {
-        pass_all(self.table, microseconds);
-    }
-
-    fn listen(&mut self, opened: &Result<Frame<'_>, Refusal>, row: u64) -> Sound {
-        step_all(self.table, opened, row)
-    }
 }

@@ -1,23 +1,92 @@
 // What is done to each tag of a table, from the first to the last.
-ghost use Rattle.std.specs.Prelude.{◌≡◌, true};
-ghost use Rattle.frame.specs.Openings.{seen};
-ghost use Rattle.field.specs.Airs.{hearing_of, plainly, Tells};
-ghost use Rattle.field.specs.Sends.{stepped_all, on_air, gapped_all};
+ghost use Rattle.std.specs.Prelude.{◌≡◌, ◌≤◌, ◌++◌, Ok, length, drop};
+ghost use Rattle.std.specs.Option.{option_map};
+ghost use Rattle.frame.specs.Openings.{opening, seen};
+ghost use Rattle.tag.specs.Steps.{stepped};
+ghost use Rattle.field.specs.Airs.{only_reply, plainly, MayHear};
+ghost use Rattle.field.specs.Sends.{coin_at, stepped_all, on_air, gapped_all, padded, left_in, InPlace, Sized};
 ghost use Rattle.bench.specs.Listings.{GapsForAll};
+ghost use Rattle.bench.specs.Voices.{hearing_with, speaker_with, spoken, said};
 
-use field::sound::Sound;
-use frame::opening::Frame;
+use field::buffer::clear;
+use field::hearing::Hearing;
+use frame::opening::{Frame, open};
 use frame::request::Request;
 use protocol::refusal::Refusal;
 use record::Tag;
+use reply::Reply;
 use tag::step;
+
+// Sends a frame to a table, with a buffer that has room for every reply.
+#[tactic(auto, using(field::proofs::Airs::may_hear_plainly, field::proofs::Airs::caught_plainly, field::proofs::Sizes::sized_stepped, field::proofs::Walks::stepped_in_place))]
+pub(crate) fn send_all(table: &mut [Tag], bytes: &[u8], row: u64, buffer: &mut [u8]) -> Hearing
+    requires { 258 ≤ length buffer.old }
+    ensures tags { table.new ≡ stepped_all (opening bytes.now) row table.old }
+    ensures hearing { MayHear (on_air (opening bytes.now) row table.old) result }
+    ensures plain { result ≡ plainly (on_air (opening bytes.now) row table.old) }
+    ensures buffer { buffer.new ≡ left_in (Ok result) (on_air (opening bytes.now) row table.old) buffer.old }
+    ensures places { InPlace (λ place. stepped (opening bytes.now) (coin_at row place)) table.old table.new }
+    ensures sized { Sized table.old → Sized table.new }
+{
+    let heard = step_all(table, &open(bytes), row);
+    heard.write(table, buffer);
+    heard.hearing
+}
+
+// What is heard of the tags so far, and which of them replied last, with what: of a lone reply it is the one that did.
+#[derive(Clone, Copy)]
+struct Heard {
+    hearing: Hearing,
+    speaker: Option<(usize, Reply)>,
+}
+
+impl Heard {
+    // With what one tag more replies, if it does.
+    #[inline(always)]
+    fn with(self, place: usize, reply: Option<Reply>) -> Heard
+        ensures hearing { result.hearing ≡ hearing_with self.hearing reply }
+        ensures speaker { result.speaker ≡ speaker_with self.speaker place reply }
+    {
+        let Some(reply) = reply else { return self };
+        Heard {
+            hearing: self.hearing.with(Hearing::Lone),
+            speaker: Some((place, reply)),
+        }
+    }
+
+    // Writes the lone reply, if it is one, and 00 behind it.
+    #[tactic(auto, using(field::proofs::Buffers::cleared_long))]
+    fn write(self, table: &[Tag], buffer: &mut [u8])
+        requires { 258 ≤ length buffer.old }
+        ensures { buffer.new
+            ≡ padded 258 (only_reply (said self.hearing self.speaker table.now)) ++ drop 258 buffer.old }
+    {
+        match (self.hearing, self.speaker) {
+            (Hearing::Lone, Some((place, reply))) => deliver(table.get(place), reply, buffer),
+            _ => clear(buffer),
+        }
+    }
+}
+
+// Writes the reply of a tag, and 00 behind it.
+#[tactic(auto, using(field::proofs::Buffers::cleared_long, field::proofs::Buffers::written_cleared))]
+fn deliver(speaker: Option<&Tag>, reply: Reply, buffer: &mut [u8])
+    requires { 258 ≤ length buffer.old }
+    ensures { buffer.new
+        ≡ padded 258 (spoken (option_map (λ x. x.now) speaker.entry) reply) ++ drop 258 buffer.old }
+{
+    clear(buffer);
+    if let Some(tag) = speaker {
+        let _ = reply.write(tag, buffer);
+    }
+}
 
 // Steps each tag in its place, with its own coin. All arms do the same. The commands of which a sweep has most get a loop
 // of their own in the compiled program, so that what is asked is looked at once there and not at every tag.
-pub(crate) fn step_all(table: &mut [Tag], opened: &Result<Frame<'_>, Refusal>, row: u64) -> Sound
+fn step_all(table: &mut [Tag], opened: &Result<Frame<'_>, Refusal>, row: u64) -> Heard
     ensures tags { table.new ≡ stepped_all (seen opened.now) row table.old }
-    ensures sound { Tells result table.new (on_air (seen opened.now) row table.old) }
-    ensures plain { hearing_of result ≡ plainly (on_air (seen opened.now) row table.old) }
+    ensures air { said result.hearing result.speaker table.new ≡ on_air (seen opened.now) row table.old }
+    ensures plain { result.hearing ≡ plainly (on_air (seen opened.now) row table.old) }
 {
     match opened {
         Ok(frame) => match frame.request() {
@@ -32,21 +101,22 @@ pub(crate) fn step_all(table: &mut [Tag], opened: &Result<Frame<'_>, Refusal>, r
 
 // The same, whatever is asked.
 #[inline(always)]
-fn step_each(table: &mut [Tag], opened: &Result<Frame<'_>, Refusal>, row: u64) -> Sound
+fn step_each(table: &mut [Tag], opened: &Result<Frame<'_>, Refusal>, row: u64) -> Heard
     ensures tags { table.new ≡ stepped_all (seen opened.now) row table.old }
-    ensures sound { Tells result table.new (on_air (seen opened.now) row table.old) }
-    ensures plain { hearing_of result ≡ plainly (on_air (seen opened.now) row table.old) }
+    ensures air { said result.hearing result.speaker table.new ≡ on_air (seen opened.now) row table.old }
+    ensures plain { result.hearing ≡ plainly (on_air (seen opened.now) row table.old) }
 {
-    let mut sound = Sound::Silence;
+    let mut heard = Heard {
+        hearing: Hearing::Silence,
+        speaker: None,
+    };
     // The coins fall off the row one by one, as its definition has it; a shift by the place would need a bound.
     let mut coins = row;
     for (place, tag) in table.iter_mut().enumerate() {
-        if let Some(reply) = step(tag, opened, coins % 2 == 1) {
-            sound = sound.blend(Sound::Lone { place, reply });
-        }
+        heard = heard.with(place, step(tag, opened, coins % 2 == 1));
         coins /= 2;
     }
-    sound
+    heard
 }
 
 #[tactic(auto, using(crate::proofs::Listed::gaps_for_all))]

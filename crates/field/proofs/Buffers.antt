@@ -1,9 +1,11 @@
 -- A reply buffer: set to 00, and a reply laid over its front. Assumes nothing.
-use Rattle.std.proofs.Common.{◌≡◌, ℕ, ◌-◌, ◌≤◌, min, List, [], ◌++◌, length, take, drop, replicate, sym, refl, ap, ap₂, ◌∙◌, arith, le-ltb, ⊎_elim}
+use Rattle.std.proofs.Common.{◌≡◌, ℕ, ◌-◌, ◌≤◌, min, Bool, true, false, cond, List, [], ◌++◌, length, take, drop, replicate, Some, None, Option, sym, refl, ap, ap₂, ◌∙◌, arith, le-ltb, lit≤, ⊎_elim, length-drop}
 use Rattle.std.proofs.lemmas.List.{append_assoc, length-append, length-replicate, length-take-le, drop-append-le, drop-replicate, drop_all}
+use Rattle.std.proofs.lemmas.Slice.{drop-append-drop}
 use Rattle.std.proofs.lemmas.Bool.{cases_lt}
+use borrow.Author.Tests.{ltb-false}
 use Rattle.frame.specs.Makings.{leaving, writing}
-use Rattle.field.specs.Sends.{padded, cleared}
+use Rattle.field.specs.Sends.{is_short, padded, cleared}
 
 pub padded_none : (n : ℕ) → padded n [] ≡ replicate n 0
 unfolding padded
@@ -27,6 +29,35 @@ delivered n reply b x y fits room e f =
     ∙ ap (λ (r : List ℕ). reply ++ drop (length reply) r) z
     ∙ ap (λ (r : List ℕ). reply ++ r) (drop-append-le (length reply) (replicate n 0) (drop n b) inside ∙ ap (λ (r : List ℕ). r ++ drop n b) (drop-replicate (length reply) n 0))
     ∙ sym (append_assoc reply (replicate (n - length reply) 0) (drop n b))
+
+-- A reply written into a buffer that was cleared.
+pub written_cleared : (reply b : List ℕ) → length reply ≤ 258 → 258 ≤ length b
+    → leaving (writing reply (length (cleared b))) (cleared b) ≡ padded 258 reply ++ drop 258 b
+written_cleared reply b fits room = delivered 258 reply b (cleared b) _ fits room (cleared_long b room) refl
+
+-- A send that is heard had room for every reply.
+pub room_of : (room : ℕ) → ◌≡◌ {A = Option ℕ} None (cond (is_short room) (Some 5) None) → 258 ≤ room
+room_of room e = go (is_short room) refl e
+  where
+    go : (b : Bool) → is_short room ≡ b → ◌≡◌ {A = Option ℕ} None (cond b (Some 5) None) → 258 ≤ room
+    go true d h = cc
+    go false d h = ltb-false room 258 d
+
+-- A buffer after a send that was heard: it is as long as before, so behind what was heard nothing has changed.
+pub drop_left : (front b x : List ℕ) → 258 ≤ length b → length x ≡ length b → x ≡ front ++ drop 258 b → drop 258 x ≡ drop 258 b
+drop_left front b x room keeps e =
+    let long : length front ≡ 258 = omega (arith, room, keeps, ap length e, length-append front (drop 258 b), length-drop 258 b) in
+    ap (drop 258) e ∙ drop-append-drop 258 b front 258 (lit≤ tt) long
+
+-- It may then be cleared.
+pub cleared_left : (front b x : List ℕ) → 258 ≤ length b → length x ≡ length b → x ≡ front ++ drop 258 b → cleared x ≡ padded 258 [] ++ drop 258 b
+cleared_left front b x room keeps e =
+    cleared_long x (omega (arith, room, keeps)) ∙ ap (λ (xs : List ℕ). padded 258 [] ++ xs) (drop_left front b x room keeps e)
+
+-- The same, as an equation.
+pub cleared_again : (reply b : List ℕ) → 258 ≤ length b → length (padded 258 reply ++ drop 258 b) ≡ length b
+    → cleared (padded 258 reply ++ drop 258 b) ≡ padded 258 [] ++ drop 258 b
+cleared_again reply b room keeps = cleared_left (padded 258 reply) b (padded 258 reply ++ drop 258 b) room keeps refl
 
 behind : (b : List ℕ) (n : ℕ) → n ≡ min (length b) 258 → drop n b ≡ drop 258 b
 behind b n e =

@@ -1,5 +1,6 @@
 pub mod Airs
 pub mod Buffers
+pub mod Joins
 pub mod Listed
 pub mod Sizes
 pub mod Walks

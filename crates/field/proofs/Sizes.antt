@@ -1,7 +1,7 @@
 -- Memories keep their 56 bytes, whatever their tags meet. Assumes nothing.
 use Rattle.std.proofs.Common.{◌≡◌, ℕ, ◌/◌, Bool, true, false, cond, List, [], ◌∷◌, map, length, ◌∙◌}
 use Rattle.std.specs.List.{AllByRecursion}
-use Rattle.std.proofs.lemmas.List.Elements.{All-from_recursion, recursion_from_All}
+use Rattle.std.proofs.lemmas.List.Elements.{All-cons, All-nil, All-from_recursion, recursion_from_All}
 use Rattle.frame.specs.Openings.{Opening, opening}
 use Rattle.record.specs.declared.Tag.{Tag}
 use Rattle.record.specs.Gaps.{gapped}
@@ -11,6 +11,10 @@ use Rattle.field.specs.Sends.{first_coin, stepped_all, gapped_all, is_short, sen
 
 abbrev pub IsSized : Tag → Type 0
 IsSized t = length t.memory ≡ 56
+
+-- One tag on its own.
+pub one_sized : (t : Tag) → length t.memory ≡ 56 → Sized (t ∷ [])
+one_sized t h = All-cons IsSized t [] h (All-nil IsSized)
 
 stepped_each : (frame : Opening) (row : ℕ) (tags : List Tag) → AllByRecursion IsSized tags → AllByRecursion IsSized (stepped_all frame row tags)
 unfolding stepped_all

@@ -1,12 +1,15 @@
 -- Laws of what a send and a gap do to a list of tags. Assumes nothing.
 use Rattle.std.proofs.Common.{◌≡◌, ℕ, zero, suc, ◌/◌, ◌%◌, ◌^◌, eqb, List, [], ◌∷◌, length, Some, sym, refl, ap, ◌∙◌, div-one}
 use native.Mathlib.Nat.{div-div-eq-div-mul, pow-succ'}
+use Rattle.std.proofs.lemmas.List.{length-map}
+use Rattle.std.proofs.lemmas.Option.{slice_get-map}
 use Rattle.std.specs.Option.{option_map}
 use Rattle.std.specs.List.{slice_get}
 use Rattle.frame.specs.Openings.{Opening}
 use Rattle.record.specs.declared.Tag.{Tag}
+use Rattle.record.specs.Gaps.{gapped}
 use Rattle.tag.specs.Steps.{stepped}
-use Rattle.field.specs.Sends.{coin_at, stepped_all, InPlace}
+use Rattle.field.specs.Sends.{coin_at, stepped_all, gapped_all, InPlace}
 
 -- One place more is one halving more.
 pub halved : (row n : ℕ) → row / 2 / 2 ^ n ≡ row / 2 ^ suc n
@@ -28,3 +31,7 @@ nth-stepped frame row (t ∷ ts) (suc place) =
 
 pub stepped_in_place : (frame : Opening) (row : ℕ) (tags : List Tag) → InPlace (λ place. stepped frame (coin_at row place)) tags (stepped_all frame row tags)
 stepped_in_place frame row tags = record { places = length-stepped frame row tags; each = nth-stepped frame row tags }
+
+pub gapped_in_place : (microseconds : ℕ) (tags : List Tag) → InPlace (λ _. gapped microseconds) tags (gapped_all microseconds tags)
+gapped_in_place microseconds tags =
+    record { places = length-map tags (gapped microseconds); each = slice_get-map (gapped microseconds) tags }

@@ -1,21 +1,20 @@
 -- Two lists of tags as one: what a send does to both together is what it does to each. Assumes nothing.
-use Rattle.std.proofs.Common.{◌≡◌, ℕ, zero, suc, ◌+◌, ◌/◌, ◌<◌, ◌≤◌, Bool, true, false, cond, List, [], ◌∷◌, ◌++◌, length, MatchBool, sym, refl, ap, ◌∙◌, subst, ap₂, div-one, arith, le-leb}
+use Rattle.std.proofs.Common.{◌≡◌, inl, inr, ℕ, zero, suc, ◌+◌, ◌/◌, ◌<◌, ◌≤◌, Bool, true, false, cond, List, [], ◌∷◌, ◌++◌, length, take, drop, MatchBool, Ok, sym, refl, ap, ◌∙◌, subst, ap₂, div-one, arith, le-leb, le-ltb}
 use borrow.Author.Tests.{lt-leb}
-use Rattle.std.proofs.lemmas.List.{length-append, map-append}
-use Rattle.std.proofs.lemmas.Bool.{true≢false}
+use Rattle.std.proofs.lemmas.List.{length-take-le, map-append, append-nil, drop_all}
 use Rattle.std.specs.List.{slice_get}
 use Rattle.frame.specs.Openings.{Opening, opening}
 use Rattle.record.specs.declared.Tag.{Tag}
 use Rattle.record.specs.Gaps.{gapped}
 use Rattle.tag.specs.Steps.{stepped, replied}
 use Rattle.field.specs.declared.hearing.Hearing.{Hearing}
-use Rattle.field.specs.declared.sound.Sound.{Sound}
-use Rattle.field.specs.declared.sound.Sound.TheVariants.{Silence, Lone, Clash}
-use Rattle.field.specs.Airs.{Air, silent, one, many, mixed, voice, is_silent, plainly, hearing_of, blended, spoken, Tells}
-use Rattle.field.specs.Sends.{first_coin, row_behind, stepped_all, on_air, is_short}
-use Rattle.field.proofs.Hearings.{mixed_assoc, mixed_silent}
-use Rattle.field.proofs.Walks.{halved, length-stepped}
-use Rattle.layers.specs.Pairs.{fits, paired, together, behind, Split}
+use Rattle.field.specs.declared.hearing.Hearing.TheVariants.{Silence, Lone, Clash}
+use Rattle.field.specs.Airs.{Air, silent, one, many, mixed, voice, MayHear, plainly, caught, only_reply, together}
+use Rattle.field.specs.Sends.{first_coin, coin_at, row_behind, stepped_all, on_air, is_short, sent_to, padded, left_in, InPlace}
+use Rattle.field.proofs.Airs.{mixed_assoc, mixed_silent, plainly_both}
+use Rattle.field.proofs.Buffers.{drop_left, cleared_left}
+use Rattle.field.proofs.Walks.{halved, length-stepped, stepped_in_place}
+use Rattle.layers.specs.Pairs.{fits, paired, joined, Split}
 
 stepped-join : (frame : Opening) (row : ℕ) (left right : List Tag)
     → stepped_all frame row (left ++ right) ≡ stepped_all frame row left ++ stepped_all frame (row_behind (length left) row) right
@@ -68,54 +67,60 @@ nth_right (x ∷ left) right i =
     let e : suc (length left) + i ≡ suc (length left + i) = omega arith in
     ap (slice_get (x ∷ (left ++ right))) e ∙ nth_right left right i
 
--- What two sounds tell of the air together.
-sounding-mixed : (a b : Air) → is_silent a ≡ false → is_silent (mixed a b) ≡ false
-sounding-mixed silent b h = absurd (true≢false h)
-sounding-mixed (one x) silent h = refl
-sounding-mixed (one x) (one y) h = refl
-sounding-mixed (one x) many h = refl
-sounding-mixed many b h = refl
+-- What may be heard of two sides at once.
+pub may_hear_both : (a b : Air) (x y : Hearing) → MayHear a x → MayHear b y → MayHear (mixed a b) (together x y)
+may_hear_both silent b x y e f = subst (λ (h : Hearing). MayHear b (together h y)) (sym e) f
+may_hear_both (one r) silent x y e f = subst (λ (h : Hearing). MayHear (one r) (together x h)) (sym f) (beside x e)
+  where
+    beside : (h : Hearing) → MayHear (one r) h → MayHear (one r) (together h Silence)
+    beside Silence k = k
+    beside Lone k = k
+    beside Clash k = k
+may_hear_both (one r) (one s) x y e f = sounding x y e f
+  where
+    sounding : (h k : Hearing) → MayHear (one r) h → MayHear (one s) k → together h k ≡ Clash
+    sounding h k (inl p) (inl q) = ap₂ together p q
+    sounding h k (inl p) (inr q) = ap₂ together p q
+    sounding h k (inr p) q = ap (λ (z : Hearing). together z k) p
+may_hear_both (one r) many x y e f = sounding x e
+  where
+    sounding : (h : Hearing) → MayHear (one r) h → together h y ≡ Clash
+    sounding h (inl p) = ap₂ together p f
+    sounding h (inr p) = ap (λ (z : Hearing). together z y) p
+may_hear_both many b x y e f = ap (λ (z : Hearing). together z y) e
 
-tells-behind : (s : Sound) (left right : List Tag) (air : Air) → Tells s right air → Tells (behind (length left) s) (left ++ right) air
-tells-behind Silence left right air e = e
-tells-behind (Lone place reply) left right air (inside, e) =
-    (omega (arith, length-append left right), e ∙ ap (λ o. one (spoken o reply)) (sym (nth_right left right place)))
-tells-behind Clash left right air h = h
+-- Of silence nothing is on the air.
+unheard : (a : Air) → MayHear a Silence → a ≡ silent
+unheard silent h = refl
+unheard (one r) (inl h) = cc
+unheard (one r) (inr h) = cc
+unheard many h = cc
 
-tells-front : (s : Sound) (left right : List Tag) (air : Air) → Tells s left air → Tells s (left ++ right) air
-tells-front Silence left right air e = e
-tells-front (Lone place reply) left right air (inside, e) =
-    (omega (arith, length-append left right), e ∙ ap (λ o. one (spoken o reply)) (sym (nth_left left right place inside)))
-tells-front Clash left right air h = h
+-- The buffer of two sides.
+pub front_length : (mine other : List ℕ) → 258 ≤ length mine → length other ≡ 258 → length (take 258 mine) ≡ length other
+front_length mine other h e = length-take-le 258 mine h ∙ sym e
 
--- The first is not silence, the second is.
-beside_silence : (s : Sound) (tags : List Tag) (a b : Air) → b ≡ silent → Tells s tags a → Tells s tags (mixed a b)
-beside_silence s tags a b e h = subst (Tells s tags) (sym (ap (mixed a) e ∙ mixed_silent a)) h
+module _ (a b : Air) (buffer mine scratch other : List ℕ) (room : 258 ≤ length buffer) (keeps : length mine ≡ length buffer) (small : length scratch ≡ 258) where
+  -- The right's reply taken over.
+  over : (mine_has other_has : List ℕ) → mine ≡ padded 258 mine_has ++ drop 258 buffer → other ≡ padded 258 other_has ++ drop 258 scratch
+      → other ++ drop 258 mine ≡ padded 258 other_has ++ drop 258 buffer
+  over mine_has other_has p q =
+      ap₂ (λ (x y : List ℕ). x ++ y)
+      (q ∙ ap (λ (x : List ℕ). padded 258 other_has ++ x) (drop_all 258 scratch (omega (arith, small))) ∙ append-nil (padded 258 other_has))
+      (drop_left (padded 258 mine_has) buffer mine room keeps p)
 
-pub tells_both : (s o : Sound) (left right : List Tag) (a b : Air) → Tells s left a → Tells o right b
-    → Tells (blended s (behind (length left) o)) (left ++ right) (mixed a b)
-tells_both Silence o left right a b e h =
-    subst (Tells (behind (length left) o) (left ++ right)) (ap (λ (x : Air). mixed x b) (sym e)) (tells-behind o left right b h)
-tells_both (Lone place reply) Silence left right a b e h = beside_silence (Lone place reply) (left ++ right) a b h (tells-front (Lone place reply) left right a e)
-tells_both (Lone place reply) (Lone p r) left right a b e h = sounding-mixed a b (ap is_silent e.1)
-tells_both (Lone place reply) Clash left right a b e h = sounding-mixed a b (ap is_silent e.1)
-tells_both Clash o left right a b e h = sounding-mixed a b e
-
-pub hearing_both : (s o : Sound) (n : ℕ) → hearing_of (blended s (behind n o)) ≡ together (hearing_of s) (hearing_of o)
-hearing_both Silence Silence n = refl
-hearing_both Silence (Lone p r) n = refl
-hearing_both Silence Clash n = refl
-hearing_both (Lone place reply) Silence n = refl
-hearing_both (Lone place reply) (Lone p r) n = refl
-hearing_both (Lone place reply) Clash n = refl
-hearing_both Clash o n = refl
-
-pub plainly_both : (a b : Air) → together (plainly a) (plainly b) ≡ plainly (mixed a b)
-plainly_both silent b = refl
-plainly_both (one x) silent = refl
-plainly_both (one x) (one y) = refl
-plainly_both (one x) many = refl
-plainly_both many b = refl
+  pub joined_left : (x y : Hearing) → MayHear a x → MayHear b y → mine ≡ padded 258 (caught x a) ++ drop 258 buffer
+      → other ≡ padded 258 (caught y b) ++ drop 258 scratch → joined x y mine other ≡ padded 258 (caught (together x y) (mixed a b)) ++ drop 258 buffer
+  joined_left Silence Silence e f p q = p
+  joined_left Silence Lone e f p q = over [] (only_reply b) p q ∙ ap (λ (z : Air). padded 258 (only_reply (mixed z b)) ++ drop 258 buffer) (sym (unheard a e))
+  joined_left Silence Clash e f p q = over [] [] p q
+  joined_left Lone Silence e f p q =
+      p ∙ ap (λ (z : Air). padded 258 (only_reply z) ++ drop 258 buffer) (sym (ap (mixed a) (unheard b f) ∙ mixed_silent a))
+  joined_left Lone Lone e f p q = cleared_left (padded 258 (only_reply a)) buffer mine room keeps p
+  joined_left Lone Clash e f p q = cleared_left (padded 258 (only_reply a)) buffer mine room keeps p
+  joined_left Clash Silence e f p q = p
+  joined_left Clash Lone e f p q = cleared_left (padded 258 []) buffer mine room keeps p
+  joined_left Clash Clash e f p q = cleared_left (padded 258 []) buffer mine room keeps p
 
 -- The tag at a place of a pair.
 front_when : (b : Bool) (left right : List Tag) (i : ℕ) → i < length left → slice_get (cond b (left ++ right) left) i ≡ slice_get left i
@@ -132,39 +137,60 @@ when-fits b P Q e p = subst (λ (x : Bool). MatchBool x P Q) (sym e) p
 pub when_crowded : (b : Bool) (P Q : Type 0) → b ≡ false → Q → MatchBool b P Q
 when_crowded b P Q e q = subst (λ (x : Bool). MatchBool x P Q) (sym e) q
 
--- A send to both sides of a pair.
-module _ (frame : Opening) (row row_after : ℕ) (left right left_new right_new : List Tag) (few : length left + length right ≤ 64)
-    (shifted : row_after ≡ row_behind (length left) row) (on_left : left_new ≡ stepped_all frame row left)
-    (on_right : right_new ≡ stepped_all frame row_after right) where
-  pub after-length : length left_new ≡ length left
-  after-length = ap length on_left ∙ length-stepped frame row left
+sent-stepped : (room : ℕ) (bytes : List ℕ) (row : ℕ) (tags : List Tag) → 258 ≤ room → sent_to room bytes row tags ≡ stepped_all (opening bytes) row tags
+sent-stepped room bytes row tags taken = rw (le-ltb room 258 taken) refl
 
-  pub after_both : paired left_new right_new ≡ left_new ++ right_new
-  after_both = paired_both left_new right_new (omega (arith, after-length, ap length on_right, length-stepped frame row_after right))
+-- A send to both sides of a pair, with room in both buffers.
+module _ (room : ℕ) (bytes : List ℕ) (row row_after places : ℕ) (left right left_new right_new : List Tag) (taken : 258 ≤ room)
+    (few : length left + length right ≤ 64) (here : places ≡ length left) (shifted : row_after ≡ row_behind places row)
+    (on_left : left_new ≡ sent_to room bytes row left) (on_right : right_new ≡ sent_to 258 bytes row_after right) where
+  abbrev frame : Opening
+  frame = opening bytes
 
-  pub right_after : right_new ≡ stepped_all frame (row_behind (length left) row) right
-  right_after = on_right ∙ ap (λ (k : ℕ). stepped_all frame k right) shifted
+  left_after : left_new ≡ stepped_all frame row left
+  left_after = on_left ∙ sent-stepped room bytes row left taken
 
-  pub both_tags : paired left_new right_new ≡ stepped_all frame row (paired left right)
-  both_tags =
-      after_both ∙ ap₂ (λ (x : List Tag) (y : List Tag). x ++ y) on_left right_after ∙ sym (stepped-join frame row left right)
+  behind_left : row_after ≡ row_behind (length left) row
+  behind_left = shifted ∙ ap (λ (n : ℕ). row_behind n row) here
+
+  right_after : right_new ≡ stepped_all frame (row_behind (length left) row) right
+  right_after = on_right ∙ ap (λ (k : ℕ). stepped_all frame k right) behind_left
+
+  both_stepped : paired left_new right_new ≡ stepped_all frame row (paired left right)
+  both_stepped =
+      paired_both left_new right_new
+      (omega (arith, ap length left_after, length-stepped frame row left, ap length right_after, length-stepped frame (row_behind (length left) row) right))
+      ∙ ap₂ (λ (x : List Tag) (y : List Tag). x ++ y) left_after right_after ∙ sym (stepped-join frame row left right)
       ∙ ap (stepped_all frame row) (sym (paired_both left right few))
 
-  pub both_air : mixed (on_air frame row left) (on_air frame row_after right) ≡ on_air frame row (paired left right)
+  both_air : mixed (on_air frame row left) (on_air frame row_after right) ≡ on_air frame row (paired left right)
   both_air =
-      ap (λ (k : ℕ). mixed (on_air frame row left) (on_air frame k right)) shifted ∙ sym (air-join frame row left right)
+      ap (λ (k : ℕ). mixed (on_air frame row left) (on_air frame k right)) behind_left ∙ sym (air-join frame row left right)
       ∙ ap (on_air frame row) (sym (paired_both left right few))
 
-  pub both_sound : (s o r : Sound) (places : ℕ) → places ≡ length left → r ≡ blended s (behind places o) → Tells s left_new (on_air frame row left)
-      → Tells o right_new (on_air frame row_after right) → Tells r (paired left_new right_new) (on_air frame row (paired left right))
-  both_sound s o r places e blend from_left from_right =
-      let here : r ≡ blended s (behind (length left_new) o) = blend ∙ ap (λ (n : ℕ). blended s (behind n o)) (e ∙ sym after-length) in
-      subst (λ (x : Sound). Tells x (paired left_new right_new) (on_air frame row (paired left right))) (sym here)
-      (subst (λ (ts : List Tag). Tells (blended s (behind (length left_new) o)) ts (on_air frame row (paired left right))) (sym after_both)
-      (subst (λ (a : Air). Tells (blended s (behind (length left_new) o)) (left_new ++ right_new) a) both_air
-      (tells_both s o left_new right_new (on_air frame row left) (on_air frame row_after right) from_left from_right)))
+  pub both_sent : paired left_new right_new ≡ sent_to room bytes row (paired left right)
+  both_sent = both_stepped ∙ sym (sent-stepped room bytes row (paired left right) taken)
 
-  pub both_plain : (h a b : Hearing) → h ≡ together a b → a ≡ plainly (on_air frame row left) → b ≡ plainly (on_air frame row_after right)
-      → h ≡ plainly (on_air frame row (paired left right))
-  both_plain h a b e p q =
-      e ∙ ap₂ together p q ∙ plainly_both (on_air frame row left) (on_air frame row_after right) ∙ ap plainly both_air
+  pub both_in_place : InPlace (λ place. stepped (opening bytes) (coin_at row place)) (paired left right) (paired left_new right_new)
+  both_in_place = subst (InPlace (λ place. stepped frame (coin_at row place)) (paired left right)) (sym both_stepped) (stepped_in_place frame row (paired left right))
+
+  -- What is heard of both.
+  module _ (h x y : Hearing) (heard : h ≡ together x y) where
+    pub both_may_be : MayHear (on_air (opening bytes) row left) x → MayHear (on_air (opening bytes) row_after right) y
+        → MayHear (on_air (opening bytes) row (paired left right)) h
+    both_may_be e f =
+        subst (λ (a : Air). MayHear a h) both_air
+        (subst (λ (k : Hearing). MayHear (mixed (on_air frame row left) (on_air frame row_after right)) k) (sym heard)
+        (may_hear_both (on_air frame row left) (on_air frame row_after right) x y e f))
+
+    pub both_plain : x ≡ plainly (on_air (opening bytes) row left) → y ≡ plainly (on_air (opening bytes) row_after right)
+        → h ≡ plainly (on_air (opening bytes) row (paired left right))
+    both_plain p q = heard ∙ ap₂ together p q ∙ plainly_both (on_air frame row left) (on_air frame row_after right) ∙ ap plainly both_air
+
+    pub both_left : (buffer mine scratch other final : List ℕ) → 258 ≤ length buffer → length mine ≡ length buffer → length scratch ≡ 258
+        → MayHear (on_air (opening bytes) row left) x → MayHear (on_air (opening bytes) row_after right) y
+        → mine ≡ left_in (Ok x) (on_air (opening bytes) row left) buffer → other ≡ left_in (Ok y) (on_air (opening bytes) row_after right) scratch
+        → final ≡ joined x y mine other → final ≡ left_in (Ok h) (on_air (opening bytes) row (paired left right)) buffer
+    both_left buffer mine scratch other final big keeps small e f p q now =
+        now ∙ joined_left (on_air frame row left) (on_air frame row_after right) buffer mine scratch other big keeps small x y e f p q
+        ∙ ap₂ (λ (k : Hearing) (a : Air). padded 258 (caught k a) ++ drop 258 buffer) (sym heard) both_air

@@ -1,9 +1,9 @@
 -- The listings, computed. Assumes nothing.
-use Rattle.layers.specs.Listings.{PairsMade, RowsBehind, HeardTogether, LonesCounted, HeardSpoiled, PairCases, SpoilerCases}
+use Rattle.layers.specs.Listings.{PairsMade, RowsBehind, LonesCounted, HeardSpoiled, PairCases, SpoilerCases}
 
 pub pair_cases : PairCases
-unfolding PairsMade RowsBehind HeardTogether
-pair_cases = record { made = search; rows = search; heard = search }
+unfolding PairsMade RowsBehind
+pair_cases = record { made = search; rows = search }
 
 pub spoiler_cases : SpoilerCases
 unfolding LonesCounted HeardSpoiled

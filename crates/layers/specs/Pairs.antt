@@ -1,15 +1,20 @@
 -- Two fields as one: the places of the left first. Assumes nothing.
-use Rattle.std.specs.Prelude.{◌≡◌, ℕ, ◌+◌, ◌≤◌, Bool, true, false, cond, List, ◌++◌, length, nat_le, refl}
-use Rattle.std.proofs.Common.{subst, sym, leb-true}
-use Rattle.std.proofs.lemmas.List.{length-append}
-use Rattle.frame.specs.Openings.{Opening}
+use Rattle.std.specs.Prelude.{◌≡◌, ℕ, ◌+◌, Bool, cond, List, ◌++◌, length, drop, Ok, MatchBool, nat_le}
+use Rattle.frame.specs.Openings.{Opening, opening}
 use Rattle.record.specs.declared.Tag.{Tag}
 use Rattle.field.specs.declared.hearing.Hearing.{Hearing}
 use Rattle.field.specs.declared.hearing.Hearing.TheVariants.{Silence, Lone, Clash}
-use Rattle.field.specs.declared.sound.Sound.{Sound}
-use Rattle.field.specs.declared.sound.Sound.TheVariants as sound
-use Rattle.field.specs.Airs.{mixed, MayHear}
-use Rattle.field.specs.Sends.{row_behind, stepped_all, on_air, gapped_all, sent_to}
+use Rattle.field.specs.declared.field.Field.{Ghosts as Kind}
+use Rattle.field.specs.Airs.{mixed, MayHear, together}
+use Rattle.field.specs.Sends.{row_behind, stepped_all, on_air, gapped_all, sent_to, cleared}
+use Rattle.layers.specs.declared.pair.Pair.{Pair}
+
+-- The sides of a pair.
+abbrev pub left_of : {L R : Type 0} → Pair L R → L
+left_of pair = pair.left
+
+abbrev pub right_of : {L R : Type 0} → Pair L R → R
+right_of pair = pair.right
 
 -- Whether two fields are few enough tags for a pair.
 abbrev pub fits : List Tag → List Tag → Bool
@@ -19,38 +24,37 @@ fits left right = nat_le (length left + length right) 64
 abbrev pub paired : List Tag → List Tag → List Tag
 paired left right = cond (fits left right) (left ++ right) left
 
--- What is heard of two sides: silence with x is x, and two sounding sides are a clash.
-abbrev pub together : Hearing → Hearing → Hearing
-together Silence other = other
-together Lone Silence = Lone
-together Lone Lone = Clash
-together Lone Clash = Clash
-together Clash other = Clash
-
--- The place that a sound names, 0 for none.
-abbrev pub place_in : Sound → ℕ
-place_in sound.Silence = 0
-place_in (sound.Lone place reply) = place
-place_in sound.Clash = 0
-
--- A sound from behind some places.
-abbrev pub behind : ℕ → Sound → Sound
-behind places sound.Silence = sound.Silence
-behind places (sound.Lone place reply) = sound.Lone (places + place) reply
-behind places sound.Clash = sound.Clash
-
 -- What the sides of a pair do with a frame: each steps its own tags, the right ones with the coins behind the left's
 -- places, and hears what its air allows and its kind promises.
-pub record Halves (frame : Opening) (row : ℕ) (left right left_new right_new : List Tag) (of_left of_right : Hearing → Type 0) (h : Hearing) : Type 0 where
-  pub left_tags : left_new ≡ stepped_all frame row left
-  pub right_tags : right_new ≡ stepped_all frame (row_behind (length left) row) right
+pub record Halves {L R : Type 0} (l : Kind L) (r : Kind R) (bytes : List ℕ) (row row_right : ℕ) (p q : Pair L R) (h : Hearing) : Type 0 where
+  pub left_tags : l.tags q.left ≡ stepped_all (opening bytes) row (l.tags p.left)
+  pub right_tags : r.tags q.right ≡ stepped_all (opening bytes) row_right (r.tags p.right)
   pub heard_left : Hearing
   pub heard_right : Hearing
-  pub left_may_be : MayHear (on_air frame row left) heard_left
-  pub right_may_be : MayHear (on_air frame (row_behind (length left) row) right) heard_right
-  pub left_hears : of_left heard_left
-  pub right_hears : of_right heard_right
+  pub left_may_be : MayHear (on_air (opening bytes) row (l.tags p.left)) heard_left
+  pub right_may_be : MayHear (on_air (opening bytes) row_right (r.tags p.right)) heard_right
+  pub left_hears : l.hears p.left bytes row (Ok heard_left) q.left
+  pub right_hears : r.hears p.right bytes row_right (Ok heard_right) q.right
   pub both : h ≡ together heard_left heard_right
+
+-- What a pair promises of what is heard. One above 64 places, which is never made, is its left alone.
+abbrev pub HeardOfBoth : {L R : Type 0} → Kind L → Kind R → List ℕ → ℕ → Pair L R → Pair L R → Hearing → Type 0
+HeardOfBoth l r bytes row p q h =
+    MatchBool (fits (l.tags p.left) (r.tags p.right)) (Halves l r bytes row (row_behind (length (l.tags p.left)) row) p q h)
+    (l.hears p.left bytes row (Ok h) q.left × (q.right ≡ p.right))
+
+-- The reply buffer of a pair, from what stands in the left's and in the right's: beside silence the other side's reply
+-- stays or is taken over, and of two sounding sides no reply is left.
+abbrev pub joined : Hearing → Hearing → List ℕ → List ℕ → List ℕ
+joined Silence Silence mine other = mine
+joined Silence Lone mine other = other ++ drop 258 mine
+joined Silence Clash mine other = other ++ drop 258 mine
+joined Lone Silence mine other = mine
+joined Lone Lone mine other = cleared mine
+joined Lone Clash mine other = cleared mine
+joined Clash Silence mine other = mine
+joined Clash Lone mine other = cleared mine
+joined Clash Clash mine other = cleared mine
 
 -- What a send and a gap do to a joined table is what they do to its two parts, wherever it is split.
 pub record Split (left right : List Tag) : Type 0 where
@@ -58,11 +62,3 @@ pub record Split (left right : List Tag) : Type 0 where
       → sent_to room bytes row (left ++ right) ≡ sent_to room bytes row left ++ sent_to room bytes (row_behind (length left) row) right
   pub air : (frame : Opening) (row : ℕ) → on_air frame row (left ++ right) ≡ mixed (on_air frame row left) (on_air frame (row_behind (length left) row) right)
   pub gap : (us : ℕ) → gapped_all us (left ++ right) ≡ gapped_all us left ++ gapped_all us right
-
-few_when : (left right : List Tag) (b : Bool) → fits left right ≡ b → length left ≤ 64 → length (cond b (left ++ right) left) ≤ 64
-few_when left right true e h = subst (λ (n : ℕ). n ≤ 64) (sym (length-append left right)) (leb-true (length left + length right) 64 e)
-few_when left right false e h = h
-
--- A pair never means more than 64 tags.
-pub paired_few : (left right : List Tag) → length left ≤ 64 → length (paired left right) ≤ 64
-paired_few left right h = few_when left right (fits left right) refl h

@@ -1,14 +1,17 @@
 // Two fields of any kinds, as one.
-ghost use Rattle.std.specs.Prelude.{◌≡◌, ◌+◌, ◌^◌, ◌<◌, ◌&&◌, ◌++◌, length, IfOk, IfErr, if◌then◌else◌, Some, None, MatchBool};
+ghost use Rattle.std.specs.Prelude.{◌≡◌, ◌≤◌, ◌&&◌, length, IfOk, IfErr, if◌then◌else◌, Some, None};
+ghost use Rattle.field.specs.Airs.{together};
 ghost use Rattle.field.specs.Declining.{declined_by};
-ghost use Rattle.field.specs.Sends.{row_behind};
+ghost use Rattle.field.specs.Sends.{row_behind, Answered};
+ghost use Rattle.field.proofs.Joins.{few_both, sized_both};
 ghost use Rattle.layers.specs.Listings.{PairCases};
-ghost use Rattle.layers.specs.Pairs.{fits, paired, paired_few, place_in, behind, Halves, Split};
+ghost use Rattle.layers.specs.Pairs.{left_of, right_of, fits, paired, joined, HeardOfBoth, Split};
 
+use field::buffer::clear;
 use field::declined::Declined;
-use field::field::{Field, PLACES};
-use field::sound::Sound;
-use frame::opening::Frame;
+use field::field::{Field, PLACES, ROOM};
+use field::hearing::Hearing;
+use field::lending::Lending;
 use protocol::refusal::Refusal;
 use record::Tag;
 
@@ -22,9 +25,11 @@ pub struct Pair<L, R> {
 
 impl<L: Field, R: Field> Pair<L, R> {
     // Both fields as one, or both back if they have more than 64 places.
+    #[tactic(auto, using(crate::proofs::Joining::splits, crate::proofs::Listed::pair_cases))]
     pub fn new(left: L, right: R) -> Result<Pair<L, R>, Declined<(L, R)>>
-        ensures refusal { declined_by result ≡ (if fits (L.Field.tags left) (R.Field.tags right) then None else Some 6) }
-        ensures parts { IfOk result (λ p. (p.left ≡ left) × (p.right ≡ right)) }
+        ensures refusal { declined_by result
+            ≡ (if fits (L.Field.tags left) (R.Field.tags right) then None else Some 6) }
+        ensures parts { IfOk result (λ p. (left_of p ≡ left) × (right_of p ≡ right)) }
         ensures back { IfErr result (λ e. e.given ≡ (left, right)) }
         ensures split { Split (L.Field.tags left) (R.Field.tags right) }
         ensures worked { PairCases }
@@ -42,7 +47,7 @@ impl<L: Field, R: Field> Pair<L, R> {
 impl<L, R> Pair<L, R> {
     // Gives both fields back.
     pub fn into_parts(self) -> (L, R)
-        ensures { result ≡ (self.left, self.right) }
+        ensures { result ≡ (left_of self, right_of self) }
     {
         let Pair { left, right } = self;
         (left, right)
@@ -50,15 +55,20 @@ impl<L, R> Pair<L, R> {
 }
 
 impl<L: Field, R: Field> Field for Pair<L, R> {
-    ghost tags = { λ p. paired (L.Field.tags p.left) (R.Field.tags p.right) };
+    ghost tags = { λ p. paired (L.Field.tags (left_of p)) (R.Field.tags (right_of p)) };
 
-    ghost few = { λ p. paired_few (L.Field.tags p.left) (R.Field.tags p.right) (L.Field.few p.left) };
+    ghost few = { λ p. few_both (L.Field.tags p.left) (R.Field.tags p.right) (L.Field.few p.left) };
 
-    ghost faithful = { L.Field.faithful && R.Field.faithful };
+    ghost sized = { λ p. sized_both (L.Field.tags p.left) (R.Field.tags p.right)
+        (L.Field.sized p.left) (R.Field.sized p.right) };
 
-    ghost hears = { λ p frame row h q. MatchBool (fits (L.Field.tags p.left) (R.Field.tags p.right)) (Halves frame row (L.Field.tags p.left) (R.Field.tags p.right) (L.Field.tags q.left) (R.Field.tags q.right) (λ a. L.Field.hears p.left frame row a q.left) (λ a. R.Field.hears p.right frame (row_behind (length (L.Field.tags p.left)) row) a q.right) h) (L.Field.hears p.left frame row h q.left) };
+    // It hears every lone reply as lone if both sides do.
+    ghost faithful = { λ p. L.Field.faithful (left_of p) && R.Field.faithful (right_of p) };
 
-    ghost waits = { λ p us q. L.Field.waits p.left us q.left × R.Field.waits p.right us q.right };
+    ghost hears = { λ p bytes row answer q. Answered answer (HeardOfBoth L.Field R.Field bytes row p q) p q };
+
+    ghost waits = { λ p us q. L.Field.waits (left_of p) us (left_of q)
+        × R.Field.waits (right_of p) us (right_of q) };
 
     fn places(&self) -> usize {
         let left = self.left.places();
@@ -70,28 +80,32 @@ impl<L: Field, R: Field> Field for Pair<L, R> {
         }
     }
 
+    fn pass(&mut self, microseconds: u32) {
+        self.left.pass(microseconds);
+        self.right.pass(microseconds);
+    }
+
+    fn send(&mut self, bytes: &[u8], row: u64, buffer: &mut [u8]) -> Result<Hearing, Refusal> {
+        let left = self.left.places();
+        let right = self.right.places();
+        let heard = self.left.send(bytes, row, buffer)?;
+        if left + right > PLACES {
+            return Ok(heard);
+        }
+        // The right has a buffer of its own, which is never refused.
+        let mut scratch = [0; ROOM];
+        let other = self.right.send(bytes, row_behind(left, row), &mut scratch)?;
+        Ok(join(heard, other, buffer, &scratch))
+    }
+}
+
+impl<L: Lending, R: Lending> Lending for Pair<L, R> {
     fn tag(&self, place: usize) -> Option<&Tag> {
         let left = self.left.places();
         if place < left || left + self.right.places() > PLACES {
             return self.left.tag(place);
         }
         self.right.tag(place - left)
-    }
-
-    fn pass(&mut self, microseconds: u32) {
-        self.left.pass(microseconds);
-        self.right.pass(microseconds);
-    }
-
-    fn listen(&mut self, opened: &Result<Frame<'_>, Refusal>, row: u64) -> Sound {
-        let left = self.left.places();
-        let right = self.right.places();
-        let sound = self.left.listen(opened, row);
-        if left + right > PLACES {
-            return sound;
-        }
-        let other = self.right.listen(opened, row_behind(left, row));
-        sound.blend(behind(left, other))
     }
 }
 
@@ -102,16 +116,18 @@ fn row_behind(places: usize, row: u64) -> u64
     if places < 64 { row >> places } else { 0 }
 }
 
-// A sound from behind some places.
-fn behind(places: usize, sound: Sound) -> Sound
-    requires { places + place_in sound < 2 ^ 64 }
-    ensures { result ≡ behind places sound }
+// What is heard of both sides at once. The left's reply stands in the buffer, the right's in one of its own.
+#[tactic(auto, using(crate::proofs::Joining::front_length))]
+fn join(left: Hearing, right: Hearing, buffer: &mut [u8], other: &[u8]) -> Hearing
+    requires room { 258 ≤ length buffer.old }
+    requires other { length other.now ≡ 258 }
+    ensures hearing { result ≡ together left right }
+    ensures buffer { buffer.new ≡ joined left right buffer.old other.now }
 {
-    match sound {
-        Sound::Lone { place, reply } => Sound::Lone {
-            place: places + place,
-            reply,
-        },
-        Sound::Silence | Sound::Clash => sound,
+    match (left, right) {
+        (_, Hearing::Silence) => {}
+        (Hearing::Silence, _) => buffer[..ROOM].copy_from_slice(other),
+        _ => clear(buffer),
     }
+    left.with(right)
 }
