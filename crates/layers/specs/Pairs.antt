@@ -1,12 +1,13 @@
 -- Two fields as one: the places of the left first. Assumes nothing.
-use Rattle.std.specs.Prelude.{◌≡◌, ℕ, ◌+◌, Bool, cond, List, ◌++◌, length, drop, Ok, MatchBool, nat_le}
-use Rattle.frame.specs.Openings.{Opening, opening}
+use Rattle.std.specs.Prelude.{◌≡◌, ℕ, ◌+◌, Bool, cond, List, ◌++◌, length, drop, MatchBool, nat_le}
+use Rattle.frame.specs.Openings.{Opening}
 use Rattle.record.specs.declared.Tag.{Tag}
 use Rattle.field.specs.declared.hearing.Hearing.{Hearing}
 use Rattle.field.specs.declared.hearing.Hearing.TheVariants.{Silence, Lone, Clash}
 use Rattle.field.specs.declared.field.Field.{Ghosts as Kind}
-use Rattle.field.specs.Airs.{mixed, MayHear, together}
-use Rattle.field.specs.Sends.{row_behind, stepped_all, on_air, gapped_all, sent_to, cleared}
+use Rattle.field.specs.Airs.{mixed, together}
+use Rattle.field.specs.Promises.{AfterSend}
+use Rattle.field.specs.Sends.{row_behind, on_air, gapped_all, sent_to, cleared}
 use Rattle.layers.specs.declared.pair.Pair.{Pair}
 
 -- The sides of a pair.
@@ -24,24 +25,20 @@ fits left right = nat_le (length left + length right) 64
 abbrev pub paired : List Tag → List Tag → List Tag
 paired left right = cond (fits left right) (left ++ right) left
 
--- What the sides of a pair do with a frame: each steps its own tags, the right ones with the coins behind the left's
--- places, and hears what its air allows and its kind promises.
+-- What the sides of a pair do with a frame: it is sent to each, with the coins behind the left's places to the right, and
+-- what is heard of both is heard at once.
 pub record Halves {L R : Type 0} (l : Kind L) (r : Kind R) (bytes : List ℕ) (row row_right : ℕ) (p q : Pair L R) (h : Hearing) : Type 0 where
-  pub left_tags : l.tags q.left ≡ stepped_all (opening bytes) row (l.tags p.left)
-  pub right_tags : r.tags q.right ≡ stepped_all (opening bytes) row_right (r.tags p.right)
   pub heard_left : Hearing
   pub heard_right : Hearing
-  pub left_may_be : MayHear (on_air (opening bytes) row (l.tags p.left)) heard_left
-  pub right_may_be : MayHear (on_air (opening bytes) row_right (r.tags p.right)) heard_right
-  pub left_hears : l.hears p.left bytes row (Ok heard_left) q.left
-  pub right_hears : r.hears p.right bytes row_right (Ok heard_right) q.right
+  pub sent_left : AfterSend l bytes row heard_left p.left q.left
+  pub sent_right : AfterSend r bytes row_right heard_right p.right q.right
   pub both : h ≡ together heard_left heard_right
 
 -- What a pair promises of what is heard. One above 64 places, which is never made, is its left alone.
 abbrev pub HeardOfBoth : {L R : Type 0} → Kind L → Kind R → List ℕ → ℕ → Pair L R → Pair L R → Hearing → Type 0
 HeardOfBoth l r bytes row p q h =
     MatchBool (fits (l.tags p.left) (r.tags p.right)) (Halves l r bytes row (row_behind (length (l.tags p.left)) row) p q h)
-    (l.hears p.left bytes row (Ok h) q.left × (q.right ≡ p.right))
+    (AfterSend l bytes row h p.left q.left × (q.right ≡ p.right))
 
 -- The reply buffer of a pair, from what stands in the left's and in the right's: beside silence the other side's reply
 -- stays or is taken over, and of two sounding sides no reply is left.

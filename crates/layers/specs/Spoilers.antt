@@ -1,11 +1,9 @@
 -- A field whose lone replies are spoiled now and then. Assumes nothing.
-use Rattle.std.specs.Prelude.{◌≡◌, ℕ, ◌+◌, ◌%◌, ◌<◌, cond, List, Ok, ◌==◌}
-use Rattle.frame.specs.Openings.{opening}
+use Rattle.std.specs.Prelude.{◌≡◌, ℕ, ◌+◌, ◌%◌, ◌<◌, cond, List, ◌==◌}
 use Rattle.field.specs.declared.hearing.Hearing.{Hearing}
 use Rattle.field.specs.declared.hearing.Hearing.TheVariants.{Silence, Lone, Clash}
 use Rattle.field.specs.declared.field.Field.{Ghosts as Kind}
-use Rattle.field.specs.Airs.{MayHear}
-use Rattle.field.specs.Sends.{on_air}
+use Rattle.field.specs.Promises.{AfterSend}
 use Rattle.layers.specs.declared.spoiler.Spoiler.{Spoiler}
 
 -- The field below, each how-many-th lone reply is spoiled, and how many came since the last that was.
@@ -30,12 +28,11 @@ spoiled k n Silence = Silence
 spoiled k n Lone = cond (n % k == 0) Clash Lone
 spoiled k n Clash = Clash
 
--- What a spoiler does with a frame: it sends it below, where is heard what the air there allows and that field's kind
--- promises. It keeps how many lone replies came since it last spoiled one, so n of them since its making are n % k.
+-- What a spoiler does with a frame: it is sent below, and what is heard there is spoiled. It keeps how many lone replies
+-- came since it last spoiled one, so n of them since its making are n % k.
 pub record Spoils {F : Type 0} (below : Kind F) (bytes : List ℕ) (row : ℕ) (s t : Spoiler F) (h : Hearing) : Type 0 where
   pub heard_below : Hearing
-  pub may_be : MayHear (on_air (opening bytes) row (below.tags s.field)) heard_below
-  pub below_hears : below.hears s.field bytes row (Ok heard_below) t.field
+  pub sent_below : AfterSend below bytes row heard_below s.field t.field
   pub counts : (n : ℕ) → 0 < s.period → s.heard ≡ n % s.period → t.heard ≡ (n + lones heard_below) % s.period
   pub hears : (n : ℕ) → 0 < s.period → s.heard ≡ n % s.period → h ≡ spoiled s.period (n + lones heard_below) heard_below
   pub period : t.period ≡ s.period
