@@ -18,7 +18,8 @@ use Rattle.history.specs.declared.call.Call.TheVariants as call
 use Rattle.history.specs.declared.desk.Desk.{Desk}
 use Rattle.history.specs.Histories.{Moment, History}
 use Rattle.history.specs.Meetings.{Step, send, gap, sweep, step_of, steps_of, Account, refused, heard, passed, swept, Met}
-use Rattle.history.specs.Runs.{refusal_in, Ran}
+use Rattle.history.specs.Runs.{Ran}
+use Rattle.protocol.specs.Refusals.{refusal_in}
 use Rattle.compare.specs.Laws.{IsOneCall, AreOneList, IsClean, IsFair, SameAccounts, Agreed, Fair, AllAgreed, Law, Together}
 
 -- What a clean sweep leaves and reports.

@@ -1,6 +1,7 @@
 // Playing calls on two fields.
 ghost use Rattle.std.specs.Prelude.{◌≡◌, ◌≤◌, ◌||◌, if◌then◌else◌, length, Some, None, OnOk, OnErr, nat_lt};
-ghost use Rattle.history.specs.Runs.{refusal_in, Ran};
+ghost use Rattle.history.specs.Runs.{Ran};
+ghost use Rattle.protocol.specs.Refusals.{refusal_in};
 ghost use Rattle.compare.specs.Laws.{Together, Law};
 
 use field::field::Field;

@@ -1,9 +1,8 @@
 -- What a send and a gap do to a list of tags, whatever field they are in. Assumes nothing.
-use Rattle.std.specs.Prelude.{◌≡◌, ℕ, ◌-◌, ◌/◌, ◌%◌, ◌^◌, Bool, cond, List, [], ◌∷◌, ◌++◌, map, min, length, drop, replicate, All, Some, None, Ok, Err, Option, Result, ◌==◌, nat_lt}
+use Rattle.std.specs.Prelude.{◌≡◌, ℕ, ◌-◌, ◌/◌, ◌%◌, ◌^◌, Bool, cond, List, [], ◌∷◌, ◌++◌, map, min, length, drop, replicate, All, Ok, Err, Result, ◌==◌, nat_lt}
 use Rattle.std.specs.Option.{option_map}
 use Rattle.std.specs.List.{slice_get}
 use Rattle.protocol.specs.declared.refusal.Refusal.{Refusal}
-use Rattle.protocol.specs.Refusals.{number_of}
 use Rattle.frame.specs.Openings.{Opening, opening}
 use Rattle.record.specs.declared.Tag.{Tag}
 use Rattle.record.specs.Gaps.{gapped}
@@ -44,11 +43,6 @@ is_short room = nat_lt room 258
 -- The tags after a send.
 abbrev pub sent_to : ℕ → List ℕ → ℕ → List Tag → List Tag
 sent_to room bytes row tags = cond (is_short room) tags (stepped_all (opening bytes) row tags)
-
--- The number of the refusal, if a send is refused.
-abbrev pub refusal_in : Result Hearing Refusal → Option ℕ
-refusal_in (Ok h) = None
-refusal_in (Err e) = Some (number_of e)
 
 -- Some bytes followed by 00, so many in all.
 unfoldable pub padded : ℕ → List ℕ → List ℕ

@@ -2,13 +2,14 @@
 ghost use Rattle.std.specs.Prelude.{◌≡◌, ℕ, ◌≤◌, if◌then◌else◌, Bool, true, List, length, Some, None, Result};
 ghost use Rattle.std.specs.Prelude.{IfOk, OnErr, OnOk};
 ghost use Rattle.protocol.specs.declared.refusal.Refusal.{Refusal};
+ghost use Rattle.protocol.specs.Refusals.{refusal_in};
 ghost use Rattle.frame.specs.Openings.{opening};
 ghost use Rattle.record.specs.declared.Tag.{Tag};
 ghost use Rattle.record.specs.Gaps.{gapped};
 ghost use Rattle.tag.specs.Steps.{stepped};
 ghost use Rattle.field.specs.declared.hearing.Hearing.{Hearing};
 ghost use Rattle.field.specs.Airs.{MayHear, plainly};
-ghost use Rattle.field.specs.Sends.{coin_at, on_air, gapped_all, is_short, sent_to, refusal_in, left_in};
+ghost use Rattle.field.specs.Sends.{coin_at, on_air, gapped_all, is_short, sent_to, left_in};
 ghost use Rattle.field.specs.Sends.{InPlace, Sized};
 
 use crate::hearing::Hearing;

@@ -1,7 +1,6 @@
 -- The run of a field over a list of calls, with a desk for each. Assumes nothing.
-use Rattle.std.specs.Prelude.{◌≡◌, ℕ, List, [], ◌∷◌, Some, None, Ok, Err, Option, Result}
+use Rattle.std.specs.Prelude.{◌≡◌, List, [], ◌∷◌, Some, Ok, Err, Result}
 use Rattle.protocol.specs.declared.refusal.Refusal.{Refusal}
-use Rattle.protocol.specs.Refusals.{number_of}
 use Rattle.rows.specs.Filling.{rows_of}
 use Rattle.field.specs.declared.field.Field.{Ghosts as Kind}
 use Rattle.field.specs.declared.hearing.Hearing.{Hearing}
@@ -18,11 +17,6 @@ use Rattle.history.specs.Meetings.{Step, Account, refused, heard, passed, swept,
 abbrev pub account_of : Result Hearing Refusal → Account
 account_of (Ok h) = heard h
 account_of (Err e) = refused e
-
--- The number of the refusal, if a run is refused.
-abbrev pub refusal_in : Result (Unit {0}) Refusal → Option ℕ
-refusal_in (Ok x) = None
-refusal_in (Err e) = Some (number_of e)
 
 -- What is written down of an answer.
 abbrev pub answer_of : Account → Answer

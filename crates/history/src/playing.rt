@@ -1,8 +1,9 @@
 // Playing calls on one field.
 ghost use Rattle.std.specs.Prelude.{◌≡◌, ◌≤◌, if◌then◌else◌, length, Some, None, OnOk, OnErr, nat_lt};
+ghost use Rattle.protocol.specs.Refusals.{refusal_in};
 ghost use Rattle.slot.specs.Going.{setting};
 ghost use Rattle.history.specs.Meetings.{send, gap, sweep, step_of, Met};
-ghost use Rattle.history.specs.Runs.{account_of, Called, Ran, refusal_in};
+ghost use Rattle.history.specs.Runs.{account_of, Called, Ran};
 
 use crate::call::Call;
 use crate::desk::{Answer, Desk};

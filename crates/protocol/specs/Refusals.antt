@@ -1,5 +1,5 @@
 -- The refusals by their numbers, and answers that are a number or a refusal. Assumes nothing.
-use Rattle.std.specs.Prelude.{ℕ, Ok, Err, Result}
+use Rattle.std.specs.Prelude.{ℕ, Some, None, Ok, Err, Option, Result}
 use Rattle.protocol.specs.declared.refusal.Refusal.{Refusal}
 use Rattle.protocol.specs.declared.refusal.Refusal.TheVariants.{Stub, Check, Code, Length, Buffer, Crowd, Coins, Period}
 
@@ -13,10 +13,10 @@ number_of Crowd = 6
 number_of Coins = 10
 number_of Period = 11
 
--- 0, or the number of a refusal.
-abbrev pub refused_by : {T : Type 0} → Result T Refusal → ℕ
-refused_by (Ok x) = 0
-refused_by (Err e) = number_of e
+-- The number of the refusal, if a call is refused.
+abbrev pub refusal_in : {T : Type 0} → Result T Refusal → Option ℕ
+refusal_in (Ok x) = None
+refusal_in (Err e) = Some (number_of e)
 
 pub data Answer : Type 0 where
   told : ℕ → Answer

@@ -1,42 +1,30 @@
 -- Bytes printed one behind the other. Assumes nothing.
-use Rattle.std.proofs.Common.{◌≡◌, ℕ, ◌+◌, ◌<◌, true, false, cond, nat_lt, List, [], ◌++◌, length, refl, ap, ◌∙◌, subst, append_assoc, append-nil, sym, arith, Ok, Err, Result, ltb-true, ltb-false, le-ltb, lt-ltb}
+use Rattle.std.proofs.Common.{◌≡◌, ℕ, ◌+◌, ◌<◌, true, false, cond, nat_lt, List, [], ◌++◌, length, refl, ap, ◌∙◌, subst, append_assoc, append-nil, sym, arith, Some, None, Option, Ok, Err, Result, ltb-true, ltb-false, le-ltb, lt-ltb}
 use Rattle.std.proofs.lemmas.List.{length-append}
 use Rattle.protocol.specs.declared.refusal.Refusal.{Refusal}
-use Rattle.protocol.specs.declared.refusal.Refusal.TheVariants.{Stub, Check, Code, Length, Buffer, Crowd, Coins, Period}
 use Rattle.protocol.specs.Refusals.{number_of}
 use Rattle.sheet.specs.Papers.{Printed}
 
 -- What is answered where there is some room for so many bytes.
-abbrev answer_by : ℕ → ℕ → ℕ
-answer_by room n = cond (nat_lt room n) 5 0
+abbrev answer_by : ℕ → ℕ → Option ℕ
+answer_by room n = cond (nat_lt room n) (Some 5) None
 
--- No refusal has the number 0.
-numbered : (r : Refusal) → 0 < number_of r
-numbered Stub = omega arith
-numbered Check = omega arith
-numbered Code = omega arith
-numbered Length = omega arith
-numbered Buffer = omega arith
-numbered Crowd = omega arith
-numbered Coins = omega arith
-numbered Period = omega arith
-
-err_full : (room n : ℕ) (r : Refusal) → number_of r ≡ answer_by room n → room < n
+err_full : (room n : ℕ) (r : Refusal) → Some (number_of r) ≡ answer_by room n → room < n
 err_full room n r e =
     elim (nat_lt room n) as (λ b. nat_lt room n ≡ b → room < n) [
       | true ↦ λ t. ltb-true room n t
-      | false ↦ λ f. let x : number_of r ≡ 0 = e ∙ ap (λ b. cond b 5 0) f in absurd (omega (arith, numbered r))
+      | false ↦ λ f. let x : Some (number_of r) ≡ None = e ∙ ap (λ b. cond b (Some 5) None) f in cc
     ] refl
 
-answer_full : (room n : ℕ) → room < n → 5 ≡ answer_by room n
-answer_full room n h = sym (ap (λ b. cond b 5 0) (lt-ltb room n h))
+answer_full : (room n : ℕ) → room < n → Some 5 ≡ answer_by room n
+answer_full room n h = sym (ap (λ b. cond b (Some 5) None) (lt-ltb room n h))
 
 -- As much room less as there are fewer bytes.
 answer_behind : (room left n k : ℕ) → left + k ≡ room → answer_by left n ≡ answer_by room (k + n)
 answer_behind room left n k e =
     elim (nat_lt left n) as (λ b. nat_lt left n ≡ b → answer_by left n ≡ answer_by room (k + n)) [
-      | true ↦ λ t. ap (λ b. cond b 5 0) (t ∙ sym (lt-ltb room (k + n) (omega (arith, ltb-true left n t))))
-      | false ↦ λ f. ap (λ b. cond b 5 0) (f ∙ sym (le-ltb room (k + n) (omega (arith, ltb-false left n f))))
+      | true ↦ λ t. ap (λ b. cond b (Some 5) None) (t ∙ sym (lt-ltb room (k + n) (omega (arith, ltb-true left n t))))
+      | false ↦ λ f. ap (λ b. cond b (Some 5) None) (f ∙ sym (le-ltb room (k + n) (omega (arith, ltb-false left n f))))
     ] refl
 
 -- From one paper on, some bytes are printed so far that once the rest is printed, the whole is.
@@ -68,7 +56,7 @@ module _ {P : Type 0} (room : P → ℕ) (Shows : P → P → List ℕ → Type 
   printed_none : (p : P) → Printed room Shows [] p p (Ok tt)
   printed_none p =
       record {
-        answer = sym (ap (λ b. cond b 5 0) (le-ltb (room p) 0 (omega arith)));
+        answer = sym (ap (λ b. cond b (Some 5) None) (le-ltb (room p) 0 (omega arith)));
         left = λ ok. omega arith;
         shows = λ ok start text h. subst (Shows start p) (sym (append-nil text)) h;
       }

@@ -2,11 +2,12 @@
 #![tactic(auto)]
 
 ghost use Rattle.std.specs.Prelude.{◌≡◌, ◌≢◌, Any, IsTrue, IfOk, OnErr, if◌then◌else◌, Some, None};
+ghost use Rattle.protocol.specs.Refusals.{refusal_in};
 ghost use Rattle.layers.specs.Spoilers.{field_of, period_of};
 ghost use Rattle.slot.specs.Countings.{end_number};
 ghost use Rattle.slot.specs.Going.{setting, is_recorded};
 ghost use Rattle.sweep.specs.Fates.{is_due};
-ghost use Rattle.sweep.specs.Whole.{outcome_of, Swept, refused_by};
+ghost use Rattle.sweep.specs.Whole.{outcome_of, Swept};
 
 use field::field::Field;
 use layers::spoiler::Spoiler;
@@ -22,7 +23,7 @@ pub fn sweep_spoiled<F: Field>(
     budget: u16,
     lists: &mut Lists<'_>,
 ) -> Result<Report, Refusal>
-    ensures refusal { refused_by result ≡ (if is_recorded coins.now then None else Some 10) }
+    ensures refusal { refusal_in result ≡ (if is_recorded coins.now then None else Some 10) }
     ensures same { OnErr result ((spoiler.new ≡ spoiler.old) × (lists.new ≡ lists.old)) }
     ensures rule { IfOk result (λ r. Swept ⟦<Spoiler<F> as Field>⟧ (setting coins.now budget lists.old)
         spoiler.old spoiler.new (outcome_of r lists.new)) }

@@ -1,7 +1,5 @@
 -- What the call that sweeps a field says of its outcome. Assumes nothing.
-use Rattle.std.specs.Prelude.{◌≡◌, ℕ, ◌+◌, ◌≤◌, ◌⊎◌, Bool, true, List, map, length, Some, None, Ok, Err, Option, Result}
-use Rattle.protocol.specs.declared.refusal.Refusal.{Refusal}
-use Rattle.protocol.specs.Refusals.{number_of}
+use Rattle.std.specs.Prelude.{◌≡◌, ℕ, ◌+◌, ◌≤◌, ◌⊎◌, Bool, true, List, map, length}
 use Rattle.record.specs.declared.Tag.{Tag}
 use Rattle.rows.specs.Filling.{rows_of}
 use Rattle.field.specs.declared.field.Field.{Ghosts as Kind}
@@ -66,8 +64,3 @@ pub record Lawful (faithful : Bool) (set : Setting) (before after : List Tag) (o
   pub spent : end_number o.report.end ≡ 8 → o.report.counts.commands ≡ set.budget
   pub full : end_number o.report.end ≡ 9 → (length o.slots ≡ set.slot_room) ⊎ (length o.serials ≡ set.serial_room)
   pub whole : end_number o.report.end ≡ 0 → Complete faithful before after o
-
--- The number of the refusal, if a sweep is refused.
-abbrev pub refused_by : Result Report Refusal → Option ℕ
-refused_by (Ok r) = None
-refused_by (Err e) = Some (number_of e)

@@ -2,10 +2,11 @@
 #![tactic(auto)]
 
 ghost use Rattle.std.specs.Prelude.{◌≡◌, IfOk, OnErr, if◌then◌else◌, Some, None};
+ghost use Rattle.protocol.specs.Refusals.{refusal_in};
 ghost use Rattle.slot.specs.Going.{setting, BothBehind, is_recorded};
 ghost use Rattle.sweep.specs.Cases.{EmptySweeps};
 ghost use Rattle.sweep.specs.Listings.{SweepCases, WorkedFates};
-ghost use Rattle.sweep.specs.Whole.{outcome_of, Swept, Lawful, refused_by};
+ghost use Rattle.sweep.specs.Whole.{outcome_of, Swept, Lawful};
 
 mod working;
 
@@ -25,7 +26,7 @@ pub fn sweep<F: Field>(
     budget: u16,
     lists: &mut Lists<'_>,
 ) -> Result<Report, Refusal>
-    ensures refusal { refused_by result ≡ (if is_recorded coins.now then None else Some 10) }
+    ensures refusal { refusal_in result ≡ (if is_recorded coins.now then None else Some 10) }
     ensures same { OnErr result ((field.new ≡ field.old) × (lists.new ≡ lists.old)) }
     ensures rule { IfOk result (λ r.
         Swept F.Field (setting coins.now budget lists.old) field.old field.new (outcome_of r lists.new)) }

@@ -3,11 +3,12 @@ use Rattle.std.proofs.lemmas.List.{take-append-le, length-append, length-replica
 use Rattle.std.specs.Prelude.{IfOk}
 use Rattle.std.specs.Result.{result_unwrap_or}
 use Rattle.protocol.specs.declared.refusal.Refusal.{Refusal}
+use Rattle.protocol.specs.Refusals.{refusal_in}
 use Rattle.field.specs.declared.hearing.Hearing.{Hearing}
 use Rattle.field.specs.declared.hearing.Hearing.TheVariants.{Silence}
 use Rattle.frame.specs.Openings.{opening}
 use Rattle.field.specs.Airs.{Air, MayHear, plainly, caught}
-use Rattle.field.specs.Sends.{refusal_in, left_in, padded, stepped_all, on_air}
+use Rattle.field.specs.Sends.{left_in, padded, stepped_all, on_air}
 use Rattle.field.specs.declared.field.Field.{Ghosts as Kind}
 use Rattle.field.specs.Promises.{AfterSend}
 use Rattle.slot.specs.Commands.{serial_in}
