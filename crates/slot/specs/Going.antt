@@ -20,9 +20,9 @@ use Rattle.slot.specs.declared.kinds.Unsplit.{Unsplit}
 use Rattle.slot.specs.declared.kinds.Unsplit.TheVariants as unsplit
 use Rattle.slot.specs.declared.lists.Lists.{Lists}
 use Rattle.slot.specs.Countings.{stop_number, counted, sent_one}
-use Rattle.slot.specs.Rules.{Setting, Phase, Play, beginning, in_silence, in_lone, in_clash, ended}
+use Rattle.slot.specs.Rules.{Setting, Phase, Play, beginning, in_silence, in_lone, in_clash, in_reading, ended}
 use Rattle.slot.specs.Runs.{Reaches}
-use Rattle.slot.specs.Slots.{heard_in, phase_of, stand_of}
+use Rattle.slot.specs.Slots.{heard_in, phase_of, stand_of, standing}
 
 -- What a call is lent for a sweep.
 abbrev pub setting : List ℕ → ℕ → Lists → Setting
@@ -45,6 +45,10 @@ at_lone s = at_slot (in_lone s.serial) s.stand
 
 abbrev pub at_clash : ClashSlot → Where
 at_clash s = at_slot in_clash s.stand
+
+-- A lone slot whose serial number is listed, and no READ yet heard as lone, once so much is counted.
+abbrev pub at_unread : LoneSlot → Counts → Where
+at_unread s counts = at_slot (in_reading s.serial) (standing s.stand.budget s.stand.waiting s.stand.next counts)
 
 -- The serial number that was heard in a lone slot.
 abbrev pub serial_heard : LoneSlot → List ℕ
