@@ -1,5 +1,6 @@
 -- How the rule takes a sweep from one call to the next. Assumes nothing.
-use Rattle.std.specs.Prelude.{◌≡◌, ℕ, ◌≤◌, Bool, ◌&&◌, List, ◌∷◌, [], ◌++◌, length, Some, None, Ok, Err, Option, Result, nat_le}
+use Rattle.std.specs.Prelude.{◌≡◌, ℕ, ◌≤◌, Bool, ◌&&◌, List, ◌∷◌, [], ◌++◌, length, nat_le}
+use Rattle.std.specs.Prelude.{Some, None, Ok, Err, Option, Result}
 use Rattle.protocol.specs.Refusals.{number_of}
 use Rattle.record.specs.declared.Tag.{Tag}
 use Rattle.rows.specs.Filling.{rows_of, room_of, Behind}
@@ -110,7 +111,8 @@ IsLed kind set p to field field_after lists_after =
 
 -- A call that begins a sweep.
 abbrev pub Begins : {F : Type 0} → Kind F → Setting → Where → F → F → Lists → Type 0
-Begins kind set to field field_after lists_after = IsLed kind set (beginning (kind.tags field)) to field field_after lists_after
+Begins kind set to field field_after lists_after =
+    IsLed kind set (beginning (kind.tags field)) to field field_after lists_after
 
 -- A call that goes on with a sweep, from each moment at which it may stand so.
 abbrev pub Leads : {F : Type 0} → Kind F → List ℕ → Where → Where → F → F → Lists → Lists → Type 0
@@ -187,5 +189,6 @@ refused_by (Err (unsplit.Stopped s)) = None
 -- A split that is refused hands its slot back, and changes nothing.
 abbrev pub handed_back : {F : Type 0} → Result Slot Unsplit → ClashSlot → (before after : F) → Lists → Lists → Type 0
 handed_back (Ok s) slot before after lists lists_after = Unit {0}
-handed_back (Err (unsplit.Refused d)) slot before after lists lists_after = (d.given ≡ slot) × (after ≡ before) × (lists_after ≡ lists)
+handed_back (Err (unsplit.Refused d)) slot before after lists lists_after =
+    (d.given ≡ slot) × (after ≡ before) × (lists_after ≡ lists)
 handed_back (Err (unsplit.Stopped s)) slot before after lists lists_after = Unit {0}
