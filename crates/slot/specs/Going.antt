@@ -1,5 +1,6 @@
 -- How the rule takes a sweep from one call to the next. Assumes nothing.
-use Rattle.std.specs.Prelude.{◌≡◌, ℕ, ◌≤◌, Bool, ◌&&◌, List, ◌∷◌, [], ◌++◌, length, Some, None, Ok, Err, Option, Result, nat_le}
+use Rattle.std.specs.Prelude.{◌≡◌, ℕ, ◌≤◌, Bool, ◌&&◌, List, ◌∷◌, [], ◌++◌, length, nat_le}
+use Rattle.std.specs.Prelude.{Some, None, Ok, Err, Option, Result}
 use Rattle.protocol.specs.Refusals.{number_of}
 use Rattle.record.specs.declared.Tag.{Tag}
 use Rattle.rows.specs.Filling.{rows_of, room_of, Behind}
@@ -20,9 +21,9 @@ use Rattle.slot.specs.declared.kinds.Unsplit.{Unsplit}
 use Rattle.slot.specs.declared.kinds.Unsplit.TheVariants as unsplit
 use Rattle.slot.specs.declared.lists.Lists.{Lists}
 use Rattle.slot.specs.Countings.{stop_number, counted, sent_one}
-use Rattle.slot.specs.Rules.{Setting, Phase, Play, beginning, in_silence, in_lone, in_clash, ended}
+use Rattle.slot.specs.Rules.{Setting, Phase, Play, beginning, in_silence, in_lone, in_clash, in_reading, ended}
 use Rattle.slot.specs.Runs.{Reaches}
-use Rattle.slot.specs.Slots.{heard_in, phase_of, stand_of}
+use Rattle.slot.specs.Slots.{heard_in, phase_of, stand_of, standing}
 
 -- What a call is lent for a sweep.
 abbrev pub setting : List ℕ → ℕ → Lists → Setting
@@ -45,6 +46,10 @@ at_lone s = at_slot (in_lone s.serial) s.stand
 
 abbrev pub at_clash : ClashSlot → Where
 at_clash s = at_slot in_clash s.stand
+
+-- A lone slot whose serial number is listed, and no READ yet heard as lone, once so much is counted.
+abbrev pub at_unread : LoneSlot → Counts → Where
+at_unread s counts = at_slot (in_reading s.serial) (standing s.stand.budget s.stand.waiting s.stand.next counts)
 
 -- The serial number that was heard in a lone slot.
 abbrev pub serial_heard : LoneSlot → List ℕ
@@ -106,7 +111,8 @@ IsLed kind set p to field field_after lists_after =
 
 -- A call that begins a sweep.
 abbrev pub Begins : {F : Type 0} → Kind F → Setting → Where → F → F → Lists → Type 0
-Begins kind set to field field_after lists_after = IsLed kind set (beginning (kind.tags field)) to field field_after lists_after
+Begins kind set to field field_after lists_after =
+    IsLed kind set (beginning (kind.tags field)) to field field_after lists_after
 
 -- A call that goes on with a sweep, from each moment at which it may stand so.
 abbrev pub Leads : {F : Type 0} → Kind F → List ℕ → Where → Where → F → F → Lists → Lists → Type 0
@@ -183,5 +189,6 @@ refused_by (Err (unsplit.Stopped s)) = None
 -- A split that is refused hands its slot back, and changes nothing.
 abbrev pub handed_back : {F : Type 0} → Result Slot Unsplit → ClashSlot → (before after : F) → Lists → Lists → Type 0
 handed_back (Ok s) slot before after lists lists_after = Unit {0}
-handed_back (Err (unsplit.Refused d)) slot before after lists lists_after = (d.given ≡ slot) × (after ≡ before) × (lists_after ≡ lists)
+handed_back (Err (unsplit.Refused d)) slot before after lists lists_after =
+    (d.given ≡ slot) × (after ≡ before) × (lists_after ≡ lists)
 handed_back (Err (unsplit.Stopped s)) slot before after lists lists_after = Unit {0}

@@ -1,5 +1,6 @@
 -- The reader's rule: how a sweep goes on, command by command, over a list of tags. Assumes nothing.
-use Rattle.std.specs.Prelude.{ℕ, zero, suc, ◌+◌, ◌-◌, ◌%◌, cond, List, [], ◌∷◌, ◌++◌, length, nat_le, nat_eq, slice_index}
+use Rattle.std.specs.Prelude.{ℕ, zero, suc, ◌+◌, ◌-◌, ◌%◌, cond, nat_le, nat_eq}
+use Rattle.std.specs.Prelude.{List, [], ◌∷◌, ◌++◌, length, slice_index}
 use Rattle.protocol.specs.declared.command.Command.{Command}
 use Rattle.protocol.specs.declared.command.Command.TheVariants.{Select, Query, Scroll}
 use Rattle.frame.specs.Openings.{opening}
@@ -55,8 +56,8 @@ beginning tags =
 pub data Deed : Type 0 where
   -- stops, by the stop's number
   stops : ℕ → Deed
-  -- sends a command that opens a slot: which, its frame, the row of coins that goes with it, G from now on, and the place
-  -- of the row to draw next
+  -- sends a command that opens a slot: which, its frame, the row of coins that goes with it, G from now on, and the
+  -- place of the row to draw next
   opens : Command → List ℕ → ℕ → ℕ → ℕ → Deed
   -- lists a serial number
   lists : List ℕ → Deed
@@ -84,11 +85,13 @@ place_behind coins place = place % length coins + 1
 abbrev pub deed_in : Setting → Play → Phase → Deed
 deed_in set p fresh = opening_slot set p (opens Select select 0 0 0)
 deed_in set p in_silence =
-    cond (nat_eq p.waiting 0) (commanding set p closes) (opening_slot set p (opens Scroll scroll 0 (p.waiting - 1) p.next))
+    cond (nat_eq p.waiting 0) (commanding set p closes)
+    (opening_slot set p (opens Scroll scroll 0 (p.waiting - 1) p.next))
 deed_in set p (in_lone serial) = cond (nat_le set.serial_room (length p.serials)) (stops 9) (lists serial)
 deed_in set p in_clash =
     cond (nat_eq p.waiting 255) (stops 7)
-    (opening_slot set p (opens Query query (coins_at set.coins p.next) (p.waiting + 1) (place_behind set.coins p.next)))
+    (opening_slot set p
+    (opens Query query (coins_at set.coins p.next) (p.waiting + 1) (place_behind set.coins p.next)))
 deed_in set p (in_reading serial) = commanding set p (reads serial)
 deed_in set p (ended n) = rests
 

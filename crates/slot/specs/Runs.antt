@@ -4,7 +4,8 @@ use Rattle.field.specs.declared.field.Field.{Ghosts as Kind}
 use Rattle.field.specs.declared.hearing.Hearing.{Hearing}
 use Rattle.field.specs.Promises.{AfterSend}
 use Rattle.slot.specs.Commands.{again, read}
-use Rattle.slot.specs.Rules.{Setting, Play, Deed, stops, opens, lists, reads, closes, rests, next_deed, went, played, Heard, replayed}
+use Rattle.slot.specs.Rules.{Setting, Play, Deed, stops, opens, lists, reads, closes, rests}
+use Rattle.slot.specs.Rules.{next_deed, went, played, Heard, replayed}
 
 -- The field before and after a deed. One that sends has sent just its frame with its row, of which just this was heard;
 -- one that sends nothing leaves the field as it is.
@@ -20,7 +21,8 @@ AfterDeed kind rests h before after = after ≡ before
 unfoldable pub GoesAlong : {F : Type 0} → Kind F → Setting → List Hearing → Play → F → F → Type 0
 GoesAlong kind set [] p before after = after ≡ before
 GoesAlong {F} kind set (h ∷ hs) p before after =
-    (between : F) × AfterDeed kind (next_deed set p) h before between × GoesAlong kind set hs (went set h p) between after
+    (between : F) × AfterDeed kind (next_deed set p) h before between
+    × GoesAlong kind set hs (went set h p) between after
 
 -- From one moment of a sweep to a later one, with the field before and after: by hearings such as may come, and where
 -- every lone reply is heard as lone, by nothing but the rule.

@@ -44,17 +44,20 @@ abbrev pub standing : ℕ → ℕ → ℕ → Counts → Stand
 standing budget waiting next counts = record { budget = budget; waiting = waiting; next = next; counts = counts }
 
 -- What opening a slot does where nothing stops it.
-pub record Opened {F : Type 0} (kind : Kind F) (command : Command) (frame : List ℕ) (row : ℕ) (from : Stand) (before after : Lists) (field field_after : F) (opened : Slot) : Type 0 where
+pub record Opened {F : Type 0} (kind : Kind F) (command : Command) (frame : List ℕ) (row : ℕ) (from : Stand)
+    (before after : Lists) (field field_after : F) (opened : Slot) : Type 0 where
   pub sent : AfterSend kind frame row (heard_in opened) field field_after
   pub phase : phase_of opened ≡ opened_by (heard_in opened) (on_air (opening frame) row (kind.tags field))
   pub stand : stand_of opened ≡ standing from.budget from.waiting from.next (counted (heard_in opened) from.counts)
-  pub slots : rows_of after.slots ≡ rows_of before.slots ++ record { command = command; hearing = heard_in opened; waiting = from.waiting } ∷ []
+  pub slots : rows_of after.slots
+      ≡ rows_of before.slots ++ record { command = command; hearing = heard_in opened; waiting = from.waiting } ∷ []
   pub behind : Behind before.slots after.slots
   pub serials : after.serials ≡ before.serials
 
 -- What comes of a command that is to open a slot. With the budget spent, or else with the list of slots full, the sweep
 -- stops, and nothing has changed.
-pub record MayOpen {F : Type 0} (kind : Kind F) (command : Command) (frame : List ℕ) (row : ℕ) (from : Stand) (before after : Lists) (field field_after : F) (answer : Result Slot Stopped) : Type 0 where
+pub record MayOpen {F : Type 0} (kind : Kind F) (command : Command) (frame : List ℕ) (row : ℕ) (from : Stand)
+    (before after : Lists) (field field_after : F) (answer : Result Slot Stopped) : Type 0 where
   pub opens : is_ok answer ≡ not (nat_le from.budget from.counts.commands || is_full before.slots)
   pub opened : IfOk answer (λ s. Opened kind command frame row from before after field field_after s)
   pub stop : IfErr answer (λ s. stop_number s.stop ≡ cond (nat_le from.budget from.counts.commands) 8 9)

@@ -1,6 +1,7 @@
 // What a sweep counts.
 ghost use Rattle.std.specs.Prelude.{◌≡◌, ◌<◌};
 ghost use Rattle.slot.specs.Countings.{counted, sent_one};
+ghost use Rattle.slot.specs.Going.{no_counts};
 
 use field::hearing::Hearing;
 
@@ -15,7 +16,7 @@ pub struct Counts {
 
 impl Counts {
     pub(crate) fn new() -> Counts
-        ensures { result ≡ record { lone = 0; silent = 0; clash = 0; commands = 0 } }
+        ensures { result ≡ no_counts }
     {
         Counts {
             lone: 0,

@@ -1,13 +1,16 @@
 // Working a sweep slot by slot.
-ghost use Rattle.std.specs.Prelude.{◌≡◌, ℕ, ◌<◌, if◌then◌else◌, List, [], length, Some, None, IfOk, OnOk};
+ghost use Rattle.std.specs.Prelude.{◌≡◌, ℕ, ◌<◌, if◌then◌else◌, false, List, [], length, Some, None};
+ghost use Rattle.std.specs.Prelude.{IfOk, IfErr, OnOk};
 ghost use Rattle.protocol.specs.declared.command.Command.TheVariants as command;
 ghost use Rattle.rows.specs.Filling.{rows_of, is_full, and_row};
 ghost use Rattle.slot.specs.Going.{setting, at_slot, at_silent, at_lone, at_clash, serial_heard, budget_in, counts_in};
 ghost use Rattle.slot.specs.Going.{where_opened, where_split, where_read, where_left, where_closed, Begins, Leads};
 ghost use Rattle.slot.specs.Going.{counts_opened, counts_split, counts_left, counts_closed, counts_read, no_counts};
 ghost use Rattle.slot.specs.Going.{rows_opened, rows_split, rows_left, BothBehind, IsWithin, handed_back, is_recorded};
-ghost use Rattle.slot.specs.Going.{refused_by};
+ghost use Rattle.slot.specs.Going.{at_unread, refused_by};
+ghost use Rattle.slot.specs.Countings.{stop_number};
 ghost use Rattle.slot.specs.Rules.{in_silence, in_clash, in_reading};
+ghost use Rattle.slot.specs.Slots.{standing};
 
 use crate::asking::{read, repeat};
 use crate::counts::Counts;
@@ -94,7 +97,8 @@ impl SilentSlot {
 }
 
 impl LoneSlot {
-    // Lists the serial number, and sends READ until a reply is heard as lone. The slot can then be left.
+    // Lists the serial number, and sends READ until a reply is heard as lone. The slot can then be left. A sweep
+    // that stops here has not heard one.
     pub fn read<F: Field>(self, field: &mut F, lists: &mut Lists<'_>) -> Result<SilentSlot, Stopped>
         ensures rule { (coins : List ℕ) →
             Leads F.Field coins (at_lone self) (where_read result) field.old field.new lists.old lists.new }
@@ -103,6 +107,9 @@ impl LoneSlot {
             counts_read (counts_in (at_lone self)) (counts_in (where_read result)).commands }
         ensures within { OnOk result (IsWithin (budget_in (at_lone self)) (where_read result)) }
         ensures sent { IfOk result (λ s. (counts_in (at_lone self)).commands < (counts_in (at_silent s)).commands) }
+        ensures stop { IfErr result (λ s. stop_number s.stop ≡ (if is_full lists.old.serials then 9 else 8)) }
+        ensures unread { (coins : List ℕ) → IfErr result (λ s. is_full lists.old.serials ≡ false → Leads F.Field coins
+            (at_lone self) (at_unread self s.counts) field.old field.new lists.old lists.new) }
         ensures slots { lists.new.slots ≡ lists.old.slots }
         ensures serials { rows_of lists.new.serials ≡
             and_row (is_full lists.old.serials) (rows_of lists.old.serials) (serial_heard self) }
@@ -182,6 +189,11 @@ impl Stand {
             counts_read self.counts (counts_in (where_read result)).commands }
         ensures within { OnOk result (IsWithin self.budget (where_read result)) }
         ensures sent { IfOk result (λ s. self.counts.commands < s.stand.counts.commands) }
+        ensures stop { IfErr result (λ s. stop_number s.stop ≡ 8) }
+        ensures unread { (coins : List ℕ) (lists : Lists) → IfErr result (λ s. Leads F.Field coins
+            (at_slot (in_reading serial.now) self)
+            (at_slot (in_reading serial.now) (standing self.budget self.waiting self.next s.counts))
+            field.old field.new lists lists) }
     {
         let mut stand = self;
         for sent in self.counts.commands..self.budget {

@@ -1,11 +1,16 @@
-use Rattle.std.proofs.Common.{rules, ◌≡◌, ℕ, Bool, true, false, cond, List, [], ◌∷◌, ◌++◌, length, sym, refl, ap, ◌∙◌}
-use Rattle.std.specs.Prelude.{nat_le}
+use Rattle.std.proofs.Common.{rules, ◌≡◌, ℕ, Bool, true, false, cond, List, [], ◌∷◌, ◌++◌, length, Ok, Err, Result, sym, refl, ap, ap₂, ◌∙◌}
+use Rattle.std.specs.Prelude.{nat_le, IfErr}
+use Rattle.rows.specs.declared.list.Rows.{Rows}
 use Rattle.rows.specs.Filling.{rows_of, room_of, is_full, and_row}
+use Rattle.field.specs.declared.field.Field.{Ghosts as Kind}
 use Rattle.field.specs.declared.hearing.Hearing.TheVariants.{Silence}
 use Rattle.slot.specs.declared.ending.Stopped.{Stopped}
+use Rattle.slot.specs.declared.kinds.LoneSlot.{LoneSlot}
+use Rattle.slot.specs.declared.kinds.SilentSlot.{SilentSlot}
 use Rattle.slot.specs.declared.lists.Lists.{Lists}
+use Rattle.slot.specs.declared.row.SlotRow.{SlotRow}
 use Rattle.slot.specs.Countings.{stop_number}
-use Rattle.slot.specs.Going.{setting, where_read, StandsAt}
+use Rattle.slot.specs.Going.{setting, Where, at_slot, at_lone, at_unread, where_read, Leads, StandsAt}
 use Rattle.slot.specs.Rules.{Setting, Play, in_lone, in_reading, next_deed, deed_in, done, stops, lists}
 use Rattle.slot.proofs.Moves.{reaches_by, led_on, stopped}
 use Rattle.slot.proofs.kinds.LoneSlot.read.Goals as goal
@@ -26,26 +31,47 @@ returns-then-is_err-clause-rule g c coins p s =
     (ap (λ (x : Stopped). stop_number x.stop) c.stopped.ensures) (s.commands ∙ ap (λ (x : Stopped). x.counts.commands) (sym c.stopped.ensures)) s.slots
     (s.serials ∙ kept) s.tags
 
-pub returns-clause-rule : goal.returns-clause-rule
-returns-clause-rule g c coins p s =
-    let set : Setting = setting coins c.args.self.stand.budget c.args.lists.now in
-    let free : is_full c.args.lists.now.serials ≡ false = search rules in
-    let after : Lists = record { slots = c.args.lists.now.slots; serials = c.push.new.self } in
-    let listed : rows_of c.args.lists.now.serials ++ c.args.self.serial ∷ [] ≡ rows_of c.push.new.self =
-    sym (c.push.ensures.rows ∙ ap (λ (b : Bool). and_row b (rows_of c.args.lists.now.serials) c.args.self.serial) free) in
-    let q : Play = done (lists c.args.self.serial) Silence p in
-    let stands : StandsAt (in_reading c.args.self.serial) c.args.self.stand after (g.F.Field.tags c.args.field.now) q =
+-- A serial number is listed, and what reading then comes to.
+then_read : {F : Type 0} (kind : Kind F) (coins : List ℕ) (self : LoneSlot) (before after : Lists) (to : Where) (a b : F) → is_full before.serials ≡ false
+    → after.slots ≡ before.slots → rows_of after.serials ≡ and_row (is_full before.serials) (rows_of before.serials) self.serial
+    → room_of after.serials ≡ room_of before.serials → Leads kind coins (at_slot (in_reading self.serial) self.stand) to a b after after
+    → Leads kind coins (at_lone self) to a b before after
+then_read kind coins self before after to a b free slots rows room read p s =
+    let set : Setting = setting coins self.stand.budget before in
+    let listed : rows_of before.serials ++ self.serial ∷ [] ≡ rows_of after.serials =
+    sym (rows ∙ ap (λ (x : Bool). and_row x (rows_of before.serials) self.serial) free) in
+    let q : Play = done (lists self.serial) Silence p in
+    let stands : StandsAt (in_reading self.serial) self.stand after (kind.tags a) q =
     record {
       phase = refl;
       waiting = s.waiting;
       next = s.next;
       commands = s.commands;
-      slots = s.slots;
-      serials = ap (λ (rows : List (List ℕ)). rows ++ c.args.self.serial ∷ []) s.serials ∙ listed;
+      slots = s.slots ∙ ap (λ (l : Rows SlotRow). rows_of l) (sym slots);
+      serials = ap (λ (x : List (List ℕ)). x ++ self.serial ∷ []) s.serials ∙ listed;
       tags = s.tags;
     } in
-    let same : setting coins c.args.self.stand.budget after ≡ set =
-    ap (λ (n : ℕ). record { coins = coins; budget = c.args.self.stand.budget; slot_room = room_of c.args.lists.now.slots; serial_room = n }) c.push.ensures.behind.room in
-    let first = reaches_by g.F.Field set p (lists c.args.self.serial) Silence c.args.field.now c.args.field.now
-    (lone_deed set p c.args.self.serial false s.phase (ap (λ (rows : List (List ℕ)). nat_le set.serial_room (length rows)) s.serials ∙ free)) refl (λ f. refl) refl in
-    led_on g.F.Field set _ p q (where_read c.read.result) c.args.field.now c.args.field.now c.read.new.field after first same (c.read.ensures.rule coins after q stands)
+    let same : setting coins self.stand.budget after ≡ set =
+    ap₂ (λ (m n : ℕ). record { coins = coins; budget = self.stand.budget; slot_room = m; serial_room = n }) (ap (λ (l : Rows SlotRow). room_of l) slots) room in
+    let first = reaches_by kind set p (lists self.serial) Silence a a
+    (lone_deed set p self.serial false s.phase (ap (λ (x : List (List ℕ)). nat_le set.serial_room (length x)) s.serials ∙ free)) refl (λ f. refl) refl in
+    led_on kind set _ p q to a a b after first same (read q stands)
+
+pub returns-clause-rule : goal.returns-clause-rule
+returns-clause-rule g c coins =
+    let free : is_full c.args.lists.now.serials ≡ false = search rules in
+    then_read g.F.Field coins c.args.self c.args.lists.now (record { slots = c.args.lists.now.slots; serials = c.push.new.self }) (where_read c.read.result)
+    c.args.field.now c.read.new.field free refl c.push.ensures.rows c.push.ensures.behind.room (c.read.ensures.rule coins _)
+
+-- Of a stop, what follows.
+if_stopped : (r : Result SilentSlot Stopped) (P Q : Stopped → Type 0) → ((s : Stopped) → P s → Q s) → IfErr r P → IfErr r Q
+if_stopped (Ok x) P Q f e = e
+if_stopped (Err s) P Q f e = f s e
+
+pub returns-clause-unread : goal.returns-clause-unread
+returns-clause-unread g c coins =
+    let after : Lists = record { slots = c.args.lists.now.slots; serials = c.push.new.self } in
+    if_stopped c.read.result _ _
+    (λ s led free. then_read g.F.Field coins c.args.self c.args.lists.now after (at_unread c.args.self s.counts) c.args.field.now c.read.new.field free refl
+    c.push.ensures.rows c.push.ensures.behind.room led)
+    (c.read.ensures.unread coins after)

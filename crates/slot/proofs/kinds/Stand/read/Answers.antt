@@ -121,3 +121,19 @@ returns-clause-rule g c coins lists p s =
     (ap (nat_le c.args.self.budget) (was.2.commands ∙ c.loop-sent.invariant.commands) ∙ le-leb c.args.self.budget c.loop-sent.sent past)) refl
     (ap (λ (x : Stopped). stop_number x.stop) c.stopped.ensures) (was.2.commands ∙ ap (λ (x : Stopped). x.counts.commands) (sym c.stopped.ensures)) was.2.slots
     was.2.serials was.2.tags)
+
+pub returns-clause-unread : goal.returns-clause-unread
+returns-clause-unread g c coins lists p s =
+    let was = c.loop-sent.invariant.rule coins lists p s in (
+      was.0,
+      was.1,
+      record {
+        phase = was.2.phase;
+        waiting = was.2.waiting ∙ c.loop-sent.invariant.waiting;
+        next = was.2.next ∙ c.loop-sent.invariant.next;
+        commands = was.2.commands ∙ ap (λ (x : Stopped). x.counts.commands) (sym c.stopped.ensures);
+        slots = was.2.slots;
+        serials = was.2.serials;
+        tags = was.2.tags;
+      },
+    )
