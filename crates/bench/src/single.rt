@@ -3,6 +3,7 @@ ghost use Rattle.std.specs.Prelude.{◌≡◌, length};
 
 use record::Tag;
 
+// The memory has its 56 bytes, which a proof knows of an array only where it is lent as a slice.
 #[derive(Clone, Copy)]
 pub struct Single {
     pub(crate) tag: Tag,

@@ -81,8 +81,8 @@ fn deliver(speaker: Option<&Tag>, reply: Reply, buffer: &mut [u8])
     }
 }
 
-// Steps each tag in its place, with its own coin. All arms do the same. The commands of which a sweep has most get a loop
-// of their own in the compiled program, so that what is asked is looked at once there and not at every tag.
+// Steps each tag in its place, with its own coin. All arms do the same. The commands of which a sweep has most get a
+// loop of their own in the compiled program, so that what is asked is looked at once there and not at every tag.
 fn step_all(table: &mut [Tag], opened: &Result<Frame<'_>, Refusal>, row: u64) -> Heard
     ensures tags { table.new ≡ stepped_all (seen opened.now) row table.old }
     ensures air { said result.hearing result.speaker table.new ≡ on_air (seen opened.now) row table.old }
