@@ -10,8 +10,8 @@ use history::desk::Desk;
 use history::playing;
 use protocol::refusal::Refusal;
 
-// Plays one list of calls on two fields, of which each has its own desks. A call that is refused belongs to the run, which
-// goes on. With fewer desks than calls on either side nothing is done; those beyond the calls stay as they are.
+// Plays one list of calls on two fields, of which each has its own desks. A call that is refused belongs to the run,
+// which goes on. With fewer desks than calls on either side nothing is done; those beyond the calls stay as they are.
 #[tactic(auto, using(crate::proofs::Agreements::law))]
 pub fn play<L: Field, R: Field>(
     left: &mut L,

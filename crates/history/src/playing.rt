@@ -12,8 +12,8 @@ use field::hearing::Hearing;
 use protocol::refusal::Refusal;
 use sweep::sweep;
 
-// Plays a list of calls on a field, each at the desk of its place. A call that is refused belongs to the run, which goes
-// on. With fewer desks than calls nothing is done; those beyond the calls stay as they are.
+// Plays a list of calls on a field, each at the desk of its place. A call that is refused belongs to the run, which
+// goes on. With fewer desks than calls nothing is done; those beyond the calls stay as they are.
 pub fn play<F: Field>(
     field: &mut F,
     calls: &[Call<'_>],

@@ -1,4 +1,4 @@
--- A sweep over a spoiler, deed by deed. Assumes nothing.
+-- A sweep over a spoiler, deed by deed: its period stays, and where it is 1 nothing is heard as lone. Assumes nothing.
 use Rattle.std.proofs.Common.{◌≡◌, ◌≢◌, ℕ, ◌+◌, ◌%◌, ◌<◌, List, [], ◌∷◌, Result, Ok, Err, sym, ap, ◌∙◌, subst, arith}
 use Rattle.std.specs.Prelude.{Any, IsTrue, IfOk, OnErr}
 use Rattle.std.specs.List.{AllByRecursion}
@@ -21,7 +21,7 @@ use Rattle.sweep.specs.Fates.{is_due}
 use Rattle.sweep.specs.Whole.{outcome_of, Swept}
 use Rattle.sweep.proofs.Misses.{none_due}
 
--- What a spoiler of each lone reply hears.
+-- A spoiler of each lone reply hears none.
 never : (below h : Hearing) → h ≡ spoiled 1 (0 + lones below) below → h ≢ Lone
 never Silence h e lone = let k : Silence ≡ Lone = sym e ∙ lone in cc
 never Lone h e lone = let k : Clash ≡ Lone = sym e ∙ lone in cc
@@ -32,7 +32,7 @@ unheard_silence h e lone = let k : Silence ≡ Lone = sym e ∙ lone in cc
 
 module _ {F : Type 0} (below : Kind F) (kind : Kind (Spoiler F))
     (spoils : (s t : Spoiler F) (frame : List ℕ) (row : ℕ) (h : Hearing) → kind.hears s frame row (Ok h) t → Spoils below frame row s t h) where
-  -- A deed leaves the period.
+  -- The period stays.
   period_after : (d : Deed) (h : Hearing) (s t : Spoiler F) → AfterDeed kind d h s t → period_of t ≡ period_of s
   period_after (stops n) h s t e = ap period_of e
   period_after (opens c frame row g next) h s t a = (spoils s t frame row h a.promise).period
@@ -47,7 +47,7 @@ module _ {F : Type 0} (below : Kind F) (kind : Kind (Spoiler F))
   period_along set (h ∷ hs) p s t (u, a, rest) =
       period_along set hs (went set h p) u t rest ∙ period_after (next_deed set p) h s u a
 
-  -- Where it spoils each lone reply, nothing is heard as lone.
+  -- Where it is 1, no deed hears a lone reply.
   unheard : (s t : Spoiler F) (frame : List ℕ) (row : ℕ) (h : Hearing) → period_of s ≡ 1 → Spoils below frame row s t h → h ≢ Lone
   unheard s t frame row h one a =
       let none : s.heard ≡ 0 = omega (arith, s.counting) in
@@ -71,6 +71,7 @@ module _ {F : Type 0} (below : Kind F) (kind : Kind (Spoiler F))
     unheard_along set hs (went set h p) u t (period_after (next_deed set p) h s u a ∙ one) heard.1 rest,
   )
 
+  -- What a sweep, or its refusal, leaves and says.
   module _ (set : Setting) (s t : Spoiler F) (l : Lists) where
     pub period_kept : (answer : Result Report Refusal) (X : Type 0) → IfOk answer (λ r. Swept kind set s t (outcome_of r l)) → OnErr answer ((t ≡ s) × X)
         → period_of t ≡ period_of s

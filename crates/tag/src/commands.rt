@@ -2,10 +2,12 @@
 // methods would have to stand in the crate of the tag's type, which knows nothing of replies.
 ghost use Rattle.std.specs.Prelude.{◌≡◌, ◌-◌, false, not, if◌then◌else◌, Some, None};
 ghost use Rattle.record.specs.declared.State.TheVariants.{Ready};
-ghost use Rattle.record.specs.Records.{is_write_ok, bytes_from, locked_at, in_state, flagging, counting_to, permitting};
+ghost use Rattle.record.specs.Records.{is_write_ok, bytes_from, locked_at};
+ghost use Rattle.record.specs.Records.{in_state, flagging, counting_to, permitting};
 ghost use Rattle.reply.specs.Replies.{data_in};
 ghost use Rattle.tag.specs.Orders.{is_matching};
-ghost use Rattle.tag.specs.Steps.{joined, unselected, staying, drawn, in_turn, moved, verified, is_writable, written, locked};
+ghost use Rattle.tag.specs.Steps.{joined, unselected, staying, drawn, in_turn, moved, verified};
+ghost use Rattle.tag.specs.Steps.{is_writable, written, locked};
 ghost use Rattle.tag.specs.Steps.{lock_status};
 
 use frame::request::Comparison;
