@@ -1,27 +1,59 @@
--- The tags that a nesting means: those of the field in it. Assumes nothing.
-use Rattle.std.specs.Prelude.{◌≤◌, List, [], ◌∷◌, length}
-use Rattle.std.proofs.Common.{lit≤}
+-- What a nesting means and promises: what the field in it does. Assumes nothing.
+use Rattle.std.specs.Prelude.{ℕ, Bool, List, [], ◌∷◌, Result}
+use Rattle.protocol.specs.declared.refusal.Refusal.{Refusal}
 use Rattle.record.specs.declared.Tag.{Tag}
-use Rattle.layers.specs.Pairs.{paired, paired_few}
+use Rattle.field.specs.declared.field.Field.{Ghosts as Kind}
+use Rattle.field.specs.declared.hearing.Hearing.{Hearing}
+use Rattle.bench.specs.declared.bench.Bench.{Bench}
+use Rattle.bench.specs.declared.single.Single.{Single}
+use Rattle.bench.specs.Benches.{table_of, tag_of}
+use Rattle.layers.specs.declared.pair.Pair.{Pair}
+use Rattle.layers.specs.declared.spoiler.Spoiler.{Spoiler}
+use Rattle.layers.specs.Pairs.{left_of, right_of, paired}
+use Rattle.layers.specs.Spoilers.{field_of}
 use Rattle.field_cases.specs.declared.nesting.Leaf.{Leaf}
 use Rattle.field_cases.specs.declared.nesting.Leaf.TheVariants.{Table, Lone}
 use Rattle.field_cases.specs.declared.nesting.Node.{Node}
 use Rattle.field_cases.specs.declared.nesting.Node.TheVariants.{Bare, Spoiled, Paired}
 
 abbrev pub leaf_tags : Leaf → List Tag
-leaf_tags (Table b) = b.table.now
-leaf_tags (Lone s) = s ∷ []
-
-pub leaf_few : (l : Leaf) → length (leaf_tags l) ≤ 64
-leaf_few (Table b) = b.few
-leaf_few (Lone s) = lit≤ tt
+leaf_tags (Table b) = (table_of b).now
+leaf_tags (Lone s) = tag_of s.value ∷ []
 
 abbrev pub node_tags : {F : Type 0} → (F → List Tag) → Node F → List Tag
 node_tags tags (Bare f) = tags f
-node_tags tags (Spoiled s) = tags s.field
-node_tags tags (Paired p) = paired (tags p.left) (tags p.right)
+node_tags tags (Spoiled s) = tags (field_of s)
+node_tags tags (Paired p) = paired (tags (left_of p)) (tags (right_of p))
 
-pub node_few : {F : Type 0} (tags : F → List Tag) → ((f : F) → length (tags f) ≤ 64) → (n : Node F) → length (node_tags tags n) ≤ 64
-node_few tags few (Bare f) = few f
-node_few tags few (Spoiled s) = few s.field
-node_few tags few (Paired p) = paired_few (tags p.left) (tags p.right) (few p.left)
+module _ (on_bench : Kind Bench) (on_single : Kind Single) where
+  abbrev pub leaf_faithful : Leaf → Bool
+  leaf_faithful (Table b) = on_bench.faithful b
+  leaf_faithful (Lone s) = on_single.faithful s.value
+
+  abbrev pub leaf_hears : Leaf → List ℕ → ℕ → Result Hearing Refusal → Leaf → Type 0
+  leaf_hears (Table b) bytes row answer (Table c) = on_bench.hears b bytes row answer c
+  leaf_hears (Lone s) bytes row answer (Lone t) = on_single.hears s.value bytes row answer t.value
+  leaf_hears before bytes row answer after = ⊥
+
+  abbrev pub leaf_waits : Leaf → ℕ → Leaf → Type 0
+  leaf_waits (Table b) us (Table c) = on_bench.waits b us c
+  leaf_waits (Lone s) us (Lone t) = on_single.waits s.value us t.value
+  leaf_waits before us after = ⊥
+
+module _ {F : Type 0} (bare : Kind F) (spoiled : Kind (Spoiler F)) (both : Kind (Pair F F)) where
+  abbrev pub node_faithful : Node F → Bool
+  node_faithful (Bare f) = bare.faithful f
+  node_faithful (Spoiled s) = spoiled.faithful s
+  node_faithful (Paired p) = both.faithful p
+
+  abbrev pub node_hears : Node F → List ℕ → ℕ → Result Hearing Refusal → Node F → Type 0
+  node_hears (Bare f) bytes row answer (Bare g) = bare.hears f bytes row answer g
+  node_hears (Spoiled s) bytes row answer (Spoiled t) = spoiled.hears s bytes row answer t
+  node_hears (Paired p) bytes row answer (Paired q) = both.hears p bytes row answer q
+  node_hears before bytes row answer after = ⊥
+
+  abbrev pub node_waits : Node F → ℕ → Node F → Type 0
+  node_waits (Bare f) us (Bare g) = bare.waits f us g
+  node_waits (Spoiled s) us (Spoiled t) = spoiled.waits s us t
+  node_waits (Paired p) us (Paired q) = both.waits p us q
+  node_waits before us after = ⊥

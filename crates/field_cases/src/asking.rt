@@ -10,8 +10,9 @@ ghost use Rattle.field_cases.specs.Questions.{SpellsSending};
 use crate::reading::{read_row, split_word};
 use crate::showing::{Fingerprint, of_bytes, of_tags, without_end};
 use anyhow::ensure;
-use field::field::{Field, ROOM};
+use field::field::ROOM;
 use field::hearing::Hearing;
+use field::lending::Lending;
 use protocol::refusal::Refusal;
 use spelling::hexadecimal::{Hex, read_bytes};
 use std::alloc::Global;
@@ -56,7 +57,7 @@ pub struct Asked<F> {
     pub buffer: [u8; BUFFER],
 }
 
-impl<F: Field> Asked<F> {
+impl<F: Lending> Asked<F> {
     pub(crate) fn new(field: F) -> Asked<F>
         ensures field { result.field ≡ field }
         ensures buffer { result.buffer ≡ replicate 300 0xa5 }
@@ -69,10 +70,15 @@ impl<F: Field> Asked<F> {
 
     pub(crate) fn send(&mut self, sending: &Sending) -> Sent
         ensures refusal { refusal_in result.heard ≡ (if is_short sending.now.room then Some 5 else None) }
-        ensures tags { F.Field.tags self.new.field ≡ sent_to sending.now.room sending.now.frame.items sending.now.row (F.Field.tags self.old.field) }
-        ensures hearing { IfOk result.heard (λ h. MayHear (on_air (opening sending.now.frame.items) sending.now.row (F.Field.tags self.old.field)) h) }
-        ensures buffer { self.new.buffer ≡ left_in result.heard (on_air (opening sending.now.frame.items) sending.now.row (F.Field.tags self.old.field)) (take sending.now.room self.old.buffer) ++ drop sending.now.room self.old.buffer }
-        ensures shown { (result.buffer ≡ self.new.buffer) × (result.tags ≡ tags_fingerprint (F.Field.tags self.new.field)) }
+        ensures tags { F.tags self.new.field
+            ≡ sent_to sending.now.room sending.now.frame.items sending.now.row (F.tags self.old.field) }
+        ensures hearing { IfOk result.heard
+            (λ h. MayHear (on_air (opening sending.now.frame.items) sending.now.row (F.tags self.old.field)) h) }
+        ensures buffer { self.new.buffer
+            ≡ left_in result.heard (on_air (opening sending.now.frame.items) sending.now.row (F.tags self.old.field))
+            (take sending.now.room self.old.buffer)
+            ++ drop sending.now.room self.old.buffer }
+        ensures shown { (result.buffer ≡ self.new.buffer) × (result.tags ≡ tags_fingerprint (F.tags self.new.field)) }
         ensures same { OnErr result.heard (self.new ≡ self.old) }
     {
         // A copy is lent, since a part of the buffer beside the field gets no proof today.
@@ -89,9 +95,9 @@ impl<F: Field> Asked<F> {
 
     // Lets so many microseconds pass, and tells the tags after that.
     pub(crate) fn pass(&mut self, microseconds: u32) -> Fingerprint
-        ensures tags { F.Field.tags self.new.field ≡ gapped_all microseconds (F.Field.tags self.old.field) }
+        ensures tags { F.tags self.new.field ≡ gapped_all microseconds (F.tags self.old.field) }
         ensures buffer { self.new.buffer ≡ self.old.buffer }
-        ensures shown { result ≡ tags_fingerprint (F.Field.tags self.new.field) }
+        ensures shown { result ≡ tags_fingerprint (F.tags self.new.field) }
     {
         self.field.pass(microseconds);
         of_tags(&self.field)

@@ -1,12 +1,14 @@
 // Fields of every nesting, up to some layers: kinds of field like any other.
-ghost use Rattle.std.specs.Prelude.{true, false};
-ghost use Rattle.field_cases.specs.Nestings.{leaf_tags, leaf_few, node_tags, node_few};
+ghost use Rattle.field_cases.specs.Nestings.{leaf_tags, leaf_faithful, leaf_hears, leaf_waits};
+ghost use Rattle.field_cases.specs.Nestings.{node_tags, node_faithful, node_hears, node_waits};
+ghost use Rattle.field_cases.specs.declared.nesting.Leaf.TheVariants as leaf;
+ghost use Rattle.field_cases.specs.declared.nesting.Node.TheVariants as node;
 
 use bench::bench::Bench;
 use bench::single::Single;
 use field::field::Field;
-use field::sound::Sound;
-use frame::opening::Frame;
+use field::hearing::Hearing;
+use field::lending::Lending;
 use layers::pair::Pair;
 use layers::spoiler::Spoiler;
 use protocol::refusal::Refusal;
@@ -16,35 +18,38 @@ use record::Tag;
 pub type Below<'a> = Node<Node<Leaf<'a>>>;
 
 // What stands at the bottom. An enum hands each call on by a match: a boxed `dyn` would need the same calls handed on
-// for the box, and an allocation for each layer.
+// for the box, and an allocation for each layer. A single is boxed, since the toolchain proves nothing of what holds it
+// by value beside a table that is lent.
 #[derive(Drop)]
 pub enum Leaf<'a> {
     Table(Bench<'a>),
-    Lone(Single),
+    Lone(Box<Single>),
 }
 
 impl<'a> Field for Leaf<'a> {
     ghost tags = { leaf_tags };
 
-    ghost few = { leaf_few };
+    ghost few = { elim [
+      | leaf.Table b ↦ ⟦<Bench<'a> as Field>⟧.few b
+      | leaf.Lone b ↦ ⟦<Single as Field>⟧.few b.value
+    ] };
 
-    ghost faithful = { true };
+    ghost sized = { elim [
+      | leaf.Table b ↦ ⟦<Bench<'a> as Field>⟧.sized b
+      | leaf.Lone b ↦ ⟦<Single as Field>⟧.sized b.value
+    ] };
 
-    ghost hears = { λ _ _ _ _ _. Unit {0} };
+    ghost faithful = { leaf_faithful ⟦<Bench<'a> as Field>⟧ ⟦<Single as Field>⟧ };
 
-    ghost waits = { λ _ _ _. Unit {0} };
+    // It promises what the field in it does, and stays of its kind.
+    ghost hears = { leaf_hears ⟦<Bench<'a> as Field>⟧ ⟦<Single as Field>⟧ };
+
+    ghost waits = { leaf_waits ⟦<Bench<'a> as Field>⟧ ⟦<Single as Field>⟧ };
 
     fn places(&self) -> usize {
         match self {
             Leaf::Table(bench) => bench.places(),
             Leaf::Lone(single) => single.places(),
-        }
-    }
-
-    fn tag(&self, place: usize) -> Option<&Tag> {
-        match self {
-            Leaf::Table(bench) => bench.tag(place),
-            Leaf::Lone(single) => single.tag(place),
         }
     }
 
@@ -55,10 +60,19 @@ impl<'a> Field for Leaf<'a> {
         }
     }
 
-    fn listen(&mut self, opened: &Result<Frame<'_>, Refusal>, row: u64) -> Sound {
+    fn send(&mut self, bytes: &[u8], row: u64, buffer: &mut [u8]) -> Result<Hearing, Refusal> {
         match self {
-            Leaf::Table(bench) => bench.listen(opened, row),
-            Leaf::Lone(single) => single.listen(opened, row),
+            Leaf::Table(bench) => bench.send(bytes, row, buffer),
+            Leaf::Lone(single) => single.send(bytes, row, buffer),
+        }
+    }
+}
+
+impl<'a> Lending for Leaf<'a> {
+    fn tag(&self, place: usize) -> Option<&Tag> {
+        match self {
+            Leaf::Table(bench) => bench.tag(place),
+            Leaf::Lone(single) => single.tag(place),
         }
     }
 }
@@ -74,27 +88,30 @@ pub enum Node<F> {
 impl<F: Field> Field for Node<F> {
     ghost tags = { node_tags F.Field.tags };
 
-    ghost few = { node_few F.Field.tags F.Field.few };
+    ghost few = { elim [
+      | node.Bare f ↦ F.Field.few f
+      | node.Spoiled s ↦ ⟦<Spoiler<F> as Field>⟧.few s
+      | node.Paired p ↦ ⟦<Pair<F, F> as Field>⟧.few p
+    ] };
 
-    ghost faithful = { false };
+    ghost sized = { elim [
+      | node.Bare f ↦ F.Field.sized f
+      | node.Spoiled s ↦ ⟦<Spoiler<F> as Field>⟧.sized s
+      | node.Paired p ↦ ⟦<Pair<F, F> as Field>⟧.sized p
+    ] };
 
-    ghost hears = { λ _ _ _ _ _. Unit {0} };
+    // Whether it hears every lone reply as lone is known of the field in it, and not of its type.
+    ghost faithful = { node_faithful F.Field ⟦<Spoiler<F> as Field>⟧ ⟦<Pair<F, F> as Field>⟧ };
 
-    ghost waits = { λ _ _ _. Unit {0} };
+    ghost hears = { node_hears F.Field ⟦<Spoiler<F> as Field>⟧ ⟦<Pair<F, F> as Field>⟧ };
+
+    ghost waits = { node_waits F.Field ⟦<Spoiler<F> as Field>⟧ ⟦<Pair<F, F> as Field>⟧ };
 
     fn places(&self) -> usize {
         match self {
             Node::Bare(field) => field.places(),
             Node::Spoiled(spoiler) => spoiler.places(),
             Node::Paired(pair) => pair.places(),
-        }
-    }
-
-    fn tag(&self, place: usize) -> Option<&Tag> {
-        match self {
-            Node::Bare(field) => field.tag(place),
-            Node::Spoiled(spoiler) => spoiler.tag(place),
-            Node::Paired(pair) => pair.tag(place),
         }
     }
 
@@ -106,11 +123,21 @@ impl<F: Field> Field for Node<F> {
         }
     }
 
-    fn listen(&mut self, opened: &Result<Frame<'_>, Refusal>, row: u64) -> Sound {
+    fn send(&mut self, bytes: &[u8], row: u64, buffer: &mut [u8]) -> Result<Hearing, Refusal> {
         match self {
-            Node::Bare(field) => field.listen(opened, row),
-            Node::Spoiled(spoiler) => spoiler.listen(opened, row),
-            Node::Paired(pair) => pair.listen(opened, row),
+            Node::Bare(field) => field.send(bytes, row, buffer),
+            Node::Spoiled(spoiler) => spoiler.send(bytes, row, buffer),
+            Node::Paired(pair) => pair.send(bytes, row, buffer),
+        }
+    }
+}
+
+impl<F: Lending> Lending for Node<F> {
+    fn tag(&self, place: usize) -> Option<&Tag> {
+        match self {
+            Node::Bare(field) => field.tag(place),
+            Node::Spoiled(spoiler) => spoiler.tag(place),
+            Node::Paired(pair) => pair.tag(place),
         }
     }
 }

@@ -13,20 +13,22 @@ use crate::storage::Storage;
 use anyhow::{Context, bail, ensure};
 use bench::bench::{Bench, place_of};
 use field::field::Field;
+use field::lending::Lending;
 use record::Tag;
 use spelling::hexadecimal::read_bytes;
 use spelling::line::Line;
 use std::io::{BufRead, BufReader};
 
 // The answer to a question. Where there is none, nothing is said of the field: its answer may have gone unprinted.
-fn answer<F: Field>(
+fn answer<F: Lending>(
     rt: &HostRuntime,
     asked: &mut Asked<F>,
     storage: &mut Storage,
     verb: &str,
     rest: &str,
 ) -> anyhow::Result<()>
-    ensures { IfOk result (λ _. Asks verb.now rest.now (F.Field.tags asked.old.field) (F.Field.tags asked.new.field)) }
+    ensures { IfOk result
+        (λ _. Asks verb.now rest.now (F.tags asked.old.field) (F.tags asked.new.field)) }
 {
     // A match and no table of closures, since each verb has words of its own.
     match verb {
@@ -37,16 +39,16 @@ fn answer<F: Field>(
     }
 }
 
-fn answer_send<F: Field>(rt: &HostRuntime, asked: &mut Asked<F>, text: &str) -> anyhow::Result<()>
-    ensures { IfOk result (λ _. Sends text.now (F.Field.tags asked.old.field) (F.Field.tags asked.new.field)) }
+fn answer_send<F: Lending>(rt: &HostRuntime, asked: &mut Asked<F>, text: &str) -> anyhow::Result<()>
+    ensures { IfOk result (λ _. Sends text.now (F.tags asked.old.field) (F.tags asked.new.field)) }
 {
     let sending = Sending::read(rt.alloc(), text)?;
     println!(rt; "{}", asked.send(&sending))?;
     Ok(())
 }
 
-fn answer_gap<F: Field>(rt: &HostRuntime, asked: &mut Asked<F>, text: &str) -> anyhow::Result<()>
-    ensures { IfOk result (λ _. Passes text.now (F.Field.tags asked.old.field) (F.Field.tags asked.new.field)) }
+fn answer_gap<F: Lending>(rt: &HostRuntime, asked: &mut Asked<F>, text: &str) -> anyhow::Result<()>
+    ensures { IfOk result (λ _. Passes text.now (F.tags asked.old.field) (F.tags asked.new.field)) }
 {
     println!(rt; "gap {}", asked.pass(text.parse::<u32>()?))?;
     Ok(())
@@ -91,7 +93,7 @@ impl Stage<'_> {
     }
 }
 
-fn answer_all<F: Field + Drop>(
+fn answer_all<F: Lending + Drop>(
     rt: &HostRuntime,
     field: F,
     questions: &[String],
@@ -113,7 +115,7 @@ fn perform<'a, F: Build<'a> + Drop>(
     nesting: &str,
     questions: &[String],
 ) -> anyhow::Result<()> {
-    match built::<F>(nesting, table) {
+    match built::<F>(rt.alloc(), nesting, table) {
         Ok(field) => {
             println!(rt; "places {} {}", field.places(), of_tags(&field))?;
             answer_all(rt, field, questions)

@@ -4,7 +4,7 @@ ghost use Rattle.std.specs.Int.{from_bool};
 ghost use Rattle.field_cases.specs.Fingerprints.{blank, byte_taken, fingerprint, tag_taken, tags_fingerprint};
 ghost use Rattle.field_cases.specs.Listings.{BytesTaken, TagsTaken};
 
-use field::field::Field;
+use field::lending::Lending;
 use record::{SIZE, Tag};
 use std::fmt;
 use std::marker::Model;
@@ -99,8 +99,8 @@ pub(crate) fn of_bytes(bytes: &[u8]) -> Fingerprint
 
 // Of all records of a field, by place.
 #[tactic(auto, using(crate::proofs::Listed::tags_taken))]
-pub(crate) fn of_tags<F: Field>(field: &F) -> Fingerprint
-    ensures fingerprint { result ≡ tags_fingerprint (F.Field.tags field.now) }
+pub(crate) fn of_tags<F: Lending>(field: &F) -> Fingerprint
+    ensures fingerprint { result ≡ tags_fingerprint (F.tags field.now) }
     ensures worked { TagsTaken }
 {
     let mut fingerprint = Fingerprint::new();

@@ -2,8 +2,8 @@
 use crate::reading::read_row;
 use crate::showing::{Fingerprint, of_tags};
 use anyhow::Context;
-use field::field::Field;
 use field::hearing::Hearing;
+use field::lending::Lending;
 use protocol::command::Command;
 use rows::list::Rows;
 use slot::ending::Report;
@@ -64,7 +64,7 @@ impl Storage {
     }
 
     // Sweeps a field, and prints the sheet or the refusal, and what tags and storage then hold.
-    pub(crate) fn sweep<F: Field>(
+    pub(crate) fn sweep<F: Lending>(
         &mut self,
         rt: &HostRuntime,
         field: &mut F,
