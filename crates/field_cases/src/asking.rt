@@ -1,8 +1,9 @@
 // A field that is asked, question after question.
 ghost use Rattle.std.specs.Prelude.{◌≡◌, ◌≤◌, ◌++◌, take, drop, replicate, if◌then◌else◌, Some, None, IfOk, OnErr};
+ghost use Rattle.protocol.specs.Refusals.{refusal_in};
 ghost use Rattle.frame.specs.Openings.{opening};
 ghost use Rattle.field.specs.Airs.{MayHear};
-ghost use Rattle.field.specs.Sends.{on_air, is_short, sent_to, refusal_in, left_in, gapped_all};
+ghost use Rattle.field.specs.Sends.{on_air, is_short, sent_to, left_in, gapped_all};
 ghost use Rattle.field_cases.specs.Fingerprints.{tags_fingerprint};
 ghost use Rattle.field_cases.specs.Listings.{SpeltSendings};
 ghost use Rattle.field_cases.specs.Questions.{SpellsSending};
