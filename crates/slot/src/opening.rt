@@ -128,7 +128,7 @@ fn open_slot<F: Field>(
     Ok(hear_slot(field, command, parameters, row, stand, lists))
 }
 
-// The same, where neither is so.
+// The same, where neither is so. What it owes stands fact by fact, so that a wrong body shows which it breaks.
 fn hear_slot<F: Field>(
     field: &mut F,
     command: Command,
