@@ -1,22 +1,39 @@
-// The sheet of a sweep, on standard output.
+// What calls have come to, on standard output.
 use anyhow::Context;
-use compare::playing::Answer;
+use history::desk::{Answer, Desk};
+use slot::ending::Report;
 use slot::lists::Lists;
 use std::str;
 
 // How many bytes a sheet has room for.
 const PAGE: usize = 4096;
 
-// Prints the sheet of the last sweep, if there was one and it was not refused.
-pub(crate) fn show_last(rt: &HostRuntime, lists: &Lists<'_>, answer: Answer) -> anyhow::Result<()> {
-    let report = answer.context("no sweep")??;
+fn show_sheet(rt: &HostRuntime, lists: &Lists<'_>, report: &Report) -> anyhow::Result<()> {
     let mut page = [0; PAGE];
     let length = sheet::write(
         lists.slots.as_slice(),
         lists.serials.as_slice(),
-        &report,
+        report,
         &mut page,
     )?;
     print!(rt; "{}", str::from_utf8(&page[..length])?)?;
+    Ok(())
+}
+
+// The sheet of a sweep, and a line of any other call.
+fn show(rt: &HostRuntime, desk: &Desk<'_>) -> anyhow::Result<()> {
+    match desk.answer.context("no answer")? {
+        Answer::Refused(refusal) => println!(rt; "refused: {refusal}")?,
+        Answer::Heard(hearing) => println!(rt; "{hearing}")?,
+        Answer::Passed => println!(rt; "passed")?,
+        Answer::Swept(report) => show_sheet(rt, &desk.lists, &report)?,
+    }
+    Ok(())
+}
+
+pub(crate) fn show_all(rt: &HostRuntime, desks: &[Desk<'_>]) -> anyhow::Result<()> {
+    for desk in desks {
+        show(rt, desk)?;
+    }
     Ok(())
 }
