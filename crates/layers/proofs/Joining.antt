@@ -1,7 +1,7 @@
 -- Two lists of tags as one: what a send does to both together is what it does to each. Assumes nothing.
-use Rattle.std.proofs.Common.{◌≡◌, inl, inr, ℕ, zero, suc, ◌+◌, ◌/◌, ◌<◌, ◌≤◌, Bool, true, false, cond, List, [], ◌∷◌, ◌++◌, length, take, drop, MatchBool, Ok, sym, refl, ap, ◌∙◌, subst, ap₂, div-one, arith, le-leb, le-ltb}
+use Rattle.std.proofs.Common.{◌≡◌, inl, inr, ℕ, zero, suc, ◌+◌, ◌/◌, ◌<◌, ◌≤◌, Bool, true, false, cond, List, [], ◌∷◌, ◌++◌, length, drop, MatchBool, Ok, sym, refl, ap, ◌∙◌, subst, ap₂, div-one, arith, le-leb, le-ltb}
 use borrow.Author.Tests.{lt-leb}
-use Rattle.std.proofs.lemmas.List.{length-take-le, map-append, append-nil, drop_all}
+use Rattle.std.proofs.lemmas.List.{map-append}
 use Rattle.std.specs.List.{slice_get}
 use Rattle.frame.specs.Openings.{Opening, opening}
 use Rattle.record.specs.declared.Tag.{Tag}
@@ -14,7 +14,7 @@ use Rattle.field.specs.Sends.{first_coin, coin_at, row_behind, stepped_all, on_a
 use Rattle.field.proofs.Airs.{mixed_assoc, mixed_silent, plainly_both}
 use Rattle.field.proofs.Buffers.{drop_left, cleared_left}
 use Rattle.field.proofs.Walks.{halved, length-stepped, stepped_in_place}
-use Rattle.layers.specs.Pairs.{fits, paired, joined, Split}
+use Rattle.layers.specs.Pairs.{fits, paired, beside, Split}
 
 stepped-join : (frame : Opening) (row : ℕ) (left right : List Tag)
     → stepped_all frame row (left ++ right) ≡ stepped_all frame row left ++ stepped_all frame (row_behind (length left) row) right
@@ -97,30 +97,23 @@ unheard (one r) (inr h) = cc
 unheard many h = cc
 
 -- The buffer of two sides.
-pub front_length : (mine other : List ℕ) → 258 ≤ length mine → length other ≡ 258 → length (take 258 mine) ≡ length other
-front_length mine other h e = length-take-le 258 mine h ∙ sym e
+module _ (a b : Air) (buffer mine : List ℕ) (room : 258 ≤ length buffer) (keeps : length mine ≡ length buffer) where
+  over : (y : Hearing) → MayHear a Silence → mine ≡ padded 258 [] ++ drop 258 buffer
+      → padded 258 (caught y b) ++ drop 258 mine ≡ padded 258 (caught y (mixed a b)) ++ drop 258 buffer
+  over y e p =
+      ap (λ (x : List ℕ). padded 258 (caught y b) ++ x) (drop_left (padded 258 []) buffer mine room keeps p)
+      ∙ ap (λ (z : Air). padded 258 (caught y (mixed z b)) ++ drop 258 buffer) (sym (unheard a e))
 
-module _ (a b : Air) (buffer mine scratch other : List ℕ) (room : 258 ≤ length buffer) (keeps : length mine ≡ length buffer) (small : length scratch ≡ 258) where
-  -- The right's reply taken over.
-  over : (mine_has other_has : List ℕ) → mine ≡ padded 258 mine_has ++ drop 258 buffer → other ≡ padded 258 other_has ++ drop 258 scratch
-      → other ++ drop 258 mine ≡ padded 258 other_has ++ drop 258 buffer
-  over mine_has other_has p q =
-      ap₂ (λ (x y : List ℕ). x ++ y)
-      (q ∙ ap (λ (x : List ℕ). padded 258 other_has ++ x) (drop_all 258 scratch (omega (arith, small))) ∙ append-nil (padded 258 other_has))
-      (drop_left (padded 258 mine_has) buffer mine room keeps p)
-
-  pub joined_left : (x y : Hearing) → MayHear a x → MayHear b y → mine ≡ padded 258 (caught x a) ++ drop 258 buffer
-      → other ≡ padded 258 (caught y b) ++ drop 258 scratch → joined x y mine other ≡ padded 258 (caught (together x y) (mixed a b)) ++ drop 258 buffer
-  joined_left Silence Silence e f p q = p
-  joined_left Silence Lone e f p q = over [] (only_reply b) p q ∙ ap (λ (z : Air). padded 258 (only_reply (mixed z b)) ++ drop 258 buffer) (sym (unheard a e))
-  joined_left Silence Clash e f p q = over [] [] p q
-  joined_left Lone Silence e f p q =
+  pub beside_left : (x y : Hearing) → MayHear a x → MayHear b y → mine ≡ padded 258 (caught x a) ++ drop 258 buffer
+      → beside x y b mine ≡ padded 258 (caught (together x y) (mixed a b)) ++ drop 258 buffer
+  beside_left Silence y e f p = over y e p
+  beside_left Lone Silence e f p =
       p ∙ ap (λ (z : Air). padded 258 (only_reply z) ++ drop 258 buffer) (sym (ap (mixed a) (unheard b f) ∙ mixed_silent a))
-  joined_left Lone Lone e f p q = cleared_left (padded 258 (only_reply a)) buffer mine room keeps p
-  joined_left Lone Clash e f p q = cleared_left (padded 258 (only_reply a)) buffer mine room keeps p
-  joined_left Clash Silence e f p q = p
-  joined_left Clash Lone e f p q = cleared_left (padded 258 []) buffer mine room keeps p
-  joined_left Clash Clash e f p q = cleared_left (padded 258 []) buffer mine room keeps p
+  beside_left Lone Lone e f p = cleared_left (padded 258 (only_reply a)) buffer mine room keeps p
+  beside_left Lone Clash e f p = cleared_left (padded 258 (only_reply a)) buffer mine room keeps p
+  beside_left Clash Silence e f p = p
+  beside_left Clash Lone e f p = cleared_left (padded 258 []) buffer mine room keeps p
+  beside_left Clash Clash e f p = cleared_left (padded 258 []) buffer mine room keeps p
 
 -- The tag at a place of a pair.
 front_when : (b : Bool) (left right : List Tag) (i : ℕ) → i < length left → slice_get (cond b (left ++ right) left) i ≡ slice_get left i
@@ -143,7 +136,7 @@ sent-stepped room bytes row tags taken = rw (le-ltb room 258 taken) refl
 -- A send to both sides of a pair, with room in both buffers.
 module _ (room : ℕ) (bytes : List ℕ) (row row_after places : ℕ) (left right left_new right_new : List Tag) (taken : 258 ≤ room)
     (few : length left + length right ≤ 64) (here : places ≡ length left) (shifted : row_after ≡ row_behind places row)
-    (on_left : left_new ≡ sent_to room bytes row left) (on_right : right_new ≡ sent_to 258 bytes row_after right) where
+    (on_left : left_new ≡ sent_to room bytes row left) (on_right : right_new ≡ stepped_all (opening bytes) row_after right) where
   abbrev frame : Opening
   frame = opening bytes
 
@@ -187,10 +180,10 @@ module _ (room : ℕ) (bytes : List ℕ) (row row_after places : ℕ) (left righ
         → h ≡ plainly (on_air (opening bytes) row (paired left right))
     both_plain p q = heard ∙ ap₂ together p q ∙ plainly_both (on_air frame row left) (on_air frame row_after right) ∙ ap plainly both_air
 
-    pub both_left : (buffer mine scratch other final : List ℕ) → 258 ≤ length buffer → length mine ≡ length buffer → length scratch ≡ 258
+    pub both_left : (buffer mine final : List ℕ) → 258 ≤ length buffer → length mine ≡ length buffer
         → MayHear (on_air (opening bytes) row left) x → MayHear (on_air (opening bytes) row_after right) y
-        → mine ≡ left_in (Ok x) (on_air (opening bytes) row left) buffer → other ≡ left_in (Ok y) (on_air (opening bytes) row_after right) scratch
-        → final ≡ joined x y mine other → final ≡ left_in (Ok h) (on_air (opening bytes) row (paired left right)) buffer
-    both_left buffer mine scratch other final big keeps small e f p q now =
-        now ∙ joined_left (on_air frame row left) (on_air frame row_after right) buffer mine scratch other big keeps small x y e f p q
+        → mine ≡ left_in (Ok x) (on_air (opening bytes) row left) buffer → final ≡ beside x y (on_air (opening bytes) row_after right) mine
+        → final ≡ left_in (Ok h) (on_air (opening bytes) row (paired left right)) buffer
+    both_left buffer mine final big keeps e f p now =
+        now ∙ beside_left (on_air frame row left) (on_air frame row_after right) buffer mine big keeps x y e f p
         ∙ ap₂ (λ (k : Hearing) (a : Air). padded 258 (caught k a) ++ drop 258 buffer) (sym heard) both_air

@@ -1,2 +1,3 @@
+pub mod Besides
 pub mod Joining
 pub mod Listed

@@ -5,9 +5,9 @@ use Rattle.record.specs.declared.Tag.{Tag}
 use Rattle.field.specs.declared.hearing.Hearing.{Hearing}
 use Rattle.field.specs.declared.hearing.Hearing.TheVariants.{Silence, Lone, Clash}
 use Rattle.field.specs.declared.field.Field.{Ghosts as Kind}
-use Rattle.field.specs.Airs.{mixed, together}
+use Rattle.field.specs.Airs.{Air, mixed, together, caught}
 use Rattle.field.specs.Promises.{AfterSend}
-use Rattle.field.specs.Sends.{row_behind, on_air, gapped_all, sent_to, cleared}
+use Rattle.field.specs.Sends.{row_behind, on_air, gapped_all, sent_to, padded, cleared}
 use Rattle.layers.specs.declared.pair.Pair.{Pair}
 
 -- The sides of a pair.
@@ -40,18 +40,16 @@ HeardOfBoth l r bytes row p q h =
     MatchBool (fits (l.tags p.left) (r.tags p.right)) (Halves l r bytes row (row_behind (length (l.tags p.left)) row) p q h)
     (AfterSend l bytes row h p.left q.left × (q.right ≡ p.right))
 
--- The reply buffer of a pair, from what stands in the left's and in the right's: beside silence the other side's reply
--- stays or is taken over, and of two sounding sides no reply is left.
-abbrev pub joined : Hearing → Hearing → List ℕ → List ℕ → List ℕ
-joined Silence Silence mine other = mine
-joined Silence Lone mine other = other ++ drop 258 mine
-joined Silence Clash mine other = other ++ drop 258 mine
-joined Lone Silence mine other = mine
-joined Lone Lone mine other = cleared mine
-joined Lone Clash mine other = cleared mine
-joined Clash Silence mine other = mine
-joined Clash Lone mine other = cleared mine
-joined Clash Clash mine other = cleared mine
+-- The reply buffer once the right is heard beside the left, whose reply stands in it: beside silence the right's reply takes
+-- its place, beside a silent right the left's stays, and of two sounding sides no reply is left.
+abbrev pub beside : Hearing → Hearing → Air → List ℕ → List ℕ
+beside Silence other air buffer = padded 258 (caught other air) ++ drop 258 buffer
+beside Lone Silence air buffer = buffer
+beside Lone Lone air buffer = cleared buffer
+beside Lone Clash air buffer = cleared buffer
+beside Clash Silence air buffer = buffer
+beside Clash Lone air buffer = cleared buffer
+beside Clash Clash air buffer = cleared buffer
 
 -- What a send and a gap do to a joined table is what they do to its two parts, wherever it is split.
 pub record Split (left right : List Tag) : Type 0 where

@@ -1,11 +1,12 @@
 // Two fields of any kinds, as one.
 ghost use Rattle.std.specs.Prelude.{◌≡◌, ◌≤◌, ◌&&◌, length, IfOk, IfErr, if◌then◌else◌, Some, None};
-ghost use Rattle.field.specs.Airs.{together};
 ghost use Rattle.field.specs.Declining.{declined_by};
-ghost use Rattle.field.specs.Sends.{row_behind, Answered};
+ghost use Rattle.frame.specs.Openings.{opening};
+ghost use Rattle.field.specs.Promises.{AfterSend};
+ghost use Rattle.field.specs.Sends.{row_behind, on_air, Answered};
 ghost use Rattle.field.proofs.Joins.{few_both, sized_both};
 ghost use Rattle.layers.specs.Listings.{PairCases};
-ghost use Rattle.layers.specs.Pairs.{left_of, right_of, fits, paired, joined, HeardOfBoth, Split};
+ghost use Rattle.layers.specs.Pairs.{left_of, right_of, fits, paired, beside, HeardOfBoth, Split};
 
 use field::buffer::clear;
 use field::declined::Declined;
@@ -92,10 +93,8 @@ impl<L: Field, R: Field> Field for Pair<L, R> {
         if left + right > PLACES {
             return Ok(heard);
         }
-        // The right has a buffer of its own, which is never refused.
-        let mut scratch = [0; ROOM];
-        let other = self.right.send(bytes, row_behind(left, row), &mut scratch)?;
-        Ok(join(heard, other, buffer, &scratch))
+        let other = send_beside(&mut self.right, bytes, row_behind(left, row), heard, buffer);
+        Ok(heard.with(other))
     }
 }
 
@@ -116,18 +115,29 @@ fn row_behind(places: usize, row: u64) -> u64
     if places < 64 { row >> places } else { 0 }
 }
 
-// What is heard of both sides at once. The left's reply stands in the buffer, the right's in one of its own.
-#[tactic(auto, using(crate::proofs::Joining::front_length))]
-fn join(left: Hearing, right: Hearing, buffer: &mut [u8], other: &[u8]) -> Hearing
-    requires room { 258 ≤ length buffer.old }
-    requires other { length other.now ≡ 258 }
-    ensures hearing { result ≡ together left right }
-    ensures buffer { buffer.new ≡ joined left right buffer.old other.now }
+// Sends to the right, beside what the left is heard as, whose reply stands in the buffer. Beside silence the right's own
+// reply may stand there; otherwise it has a buffer of its own. Neither is ever refused.
+#[tactic(auto, using(crate::proofs::Besides::heard_sent, crate::proofs::Besides::heard_left))]
+fn send_beside<R: Field>(
+    right: &mut R,
+    bytes: &[u8],
+    row: u64,
+    left: Hearing,
+    buffer: &mut [u8],
+) -> Hearing
+    requires { 258 ≤ length buffer.old }
+    ensures sent { AfterSend R.Field bytes.now row result right.old right.new }
+    ensures buffer { buffer.new ≡ beside left result (on_air (opening bytes.now) row (R.tags right.old)) buffer.old }
 {
-    match (left, right) {
-        (_, Hearing::Silence) => {}
-        (Hearing::Silence, _) => buffer[..ROOM].copy_from_slice(other),
-        _ => clear(buffer),
+    if left == Hearing::Silence {
+        return right.send(bytes, row, buffer).unwrap_or(Hearing::Silence);
     }
-    left.with(right)
+    let mut scratch = [0; ROOM];
+    let heard = right
+        .send(bytes, row, &mut scratch)
+        .unwrap_or(Hearing::Silence);
+    if heard != Hearing::Silence {
+        clear(buffer);
+    }
+    heard
 }
