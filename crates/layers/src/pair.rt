@@ -127,7 +127,8 @@ fn send_beside<R: Field>(
 ) -> Hearing
     requires { 258 ≤ length buffer.old }
     ensures sent { AfterSend R.Field bytes.now row result right.old right.new }
-    ensures buffer { buffer.new ≡ beside left result (on_air (opening bytes.now) row (R.tags right.old)) buffer.old }
+    ensures buffer { buffer.new
+        ≡ beside left result (on_air (opening bytes.now) row (R.tags right.old)) buffer.old }
 {
     if left == Hearing::Silence {
         return right.send(bytes, row, buffer).unwrap_or(Hearing::Silence);
