@@ -145,6 +145,7 @@ impl From<Command> for u8 {
 }
 
 // The entry of a code, if a command has it.
+#[inline(always)]
 #[tactic(auto, using(crate::proofs::Listed::commands_listed, crate::proofs::Listed::unknown_codes))]
 pub fn find(code: u8) -> Option<Entry>
     ensures entry { result ≡ first_entry code (map entry_of commands) }
@@ -160,6 +161,7 @@ impl TryFrom<u8> for Entry {
 
     ghost try_from_gives = { Entered };
 
+    #[inline(always)]
     #[tactic(auto, using(crate::proofs::Lookups::entered))]
     fn try_from(code: u8) -> Result<Entry, Refusal> {
         find(code).ok_or(Refusal::Code)
@@ -167,6 +169,7 @@ impl TryFrom<u8> for Entry {
 }
 
 // The first entry with a code.
+#[inline(always)]
 fn first_entry(code: u8, entries: &[Entry]) -> Option<Entry>
     ensures { result ≡ first_entry code entries.now }
 {
