@@ -181,6 +181,56 @@ two-met r h l hr hh hl =
     ∙ ap (times 8)
     (sym (times-xor 8 m l hm (omega arith)) ∙ ap (times 8) (xor_assoc r (h * 256) l ∙ ap (bit_xor r) (xor_shifted h 8 l hl)))
 
+-- Two parts at the top bring the polynomial in twice, which is not at all.
+moved-sum_high : (q p : ℕ) → q < 0x8000 → p < 0x8000
+    → moved_up (bit_xor (0x8000 + q) (0x8000 + p)) ≡ bit_xor (moved_up (0x8000 + q)) (moved_up (0x8000 + p))
+moved-sum_high q p hq hp =
+    let e : bit_xor (1 * 0x8000 + q) (1 * 0x8000 + p) ≡ bit_xor 1 1 * 0x8000 + bit_xor q p = xor_block 15 1 1 q p hq hp in
+    let once : bit_xor 0x1021 (bit_xor (p * 2) 0x1021) ≡ p * 2 =
+    ap (bit_xor 0x1021) (xor_comm (p * 2) 0x1021) ∙ sym (xor_assoc 0x1021 0x1021 (p * 2)) in
+    let none : bit_xor 1 1 * 0x8000 + bit_xor q p ≡ bit_xor q p = omega arith in
+    ap moved_up (e ∙ none) ∙ moved_low (bit_xor q p) (xor_lt 15 q p hq hp) ∙ xor_double q p
+    ∙ sym
+    (ap₂ bit_xor (moved_top q) (moved_top p) ∙ xor_assoc (q * 2) 0x1021 (bit_xor (p * 2) 0x1021) ∙ ap (bit_xor (q * 2)) once)
+
+-- Any two registers move each by itself.
+moved-sum : (r s : ℕ) → r < 0x10000 → s < 0x10000 → moved_up (bit_xor r s) ≡ bit_xor (moved_up r) (moved_up s)
+moved-sum r s hr hs =
+    ⊎_elim (λ h. moved-xor r s hr h ∙ ap (bit_xor (moved_up r)) (sym (moved_low s h)))
+    (λ hi.
+    ⊎_elim
+    (λ h.
+    ap moved_up (xor_comm r s) ∙ moved-xor s r hs h ∙ xor_comm (moved_up s) (r * 2)
+    ∙ ap (λ (x : ℕ). bit_xor x (moved_up s)) (sym (moved_low r h)))
+    (λ h.
+    let e : 0x8000 + (r - 0x8000) ≡ r = omega arith in
+    let f : 0x8000 + (s - 0x8000) ≡ s = omega arith in
+    ap moved_up (sym (ap₂ bit_xor e f)) ∙ moved-sum_high (r - 0x8000) (s - 0x8000) (omega arith) (omega arith)
+    ∙ ap₂ (λ (x y : ℕ). bit_xor (moved_up x) (moved_up y)) e f)
+    (cases_lt r 0x8000))
+    (cases_lt s 0x8000)
+
+times-sum : (k r s : ℕ) → r < 0x10000 → s < 0x10000 → times k (bit_xor r s) ≡ bit_xor (times k r) (times k s)
+times-sum zero r s hr hs = refl
+times-sum (suc k) r s hr hs =
+    ap moved_up (times-sum k r s hr hs) ∙ moved-sum (times k r) (times k s) (times-fits k r hr) (times-fits k s hs)
+
+-- The register after two bytes, from its two bytes: each meets one of them, and moves by itself from there.
+pub two_taken_lem : (h l x y : ℕ) → h < 256 → l < 256 → x < 256 → y < 256
+    → byte_taken (byte_taken (h * 256 + l) x) y ≡ bit_xor (byte_taken (byte_taken 0 (bit_xor h x)) 0) (byte_taken 0 (bit_xor l y))
+two_taken_lem h l x y hh hl hx hy =
+    let a : ℕ = bit_xor h x in
+    let b : ℕ = bit_xor l y in
+    let ha : a < 256 = xor_lt 8 h x hh hx in
+    let hb : b < 256 = xor_lt 8 l y hl hy in
+    let z : a * 256 + 0 ≡ a * 256 = omega arith in
+    two-met (h * 256 + l) x y (omega arith) hx hy
+    ∙ ap (λ (q : ℕ). times 8 (times 8 q)) (xor_block 8 h x l y hl hy ∙ sym (xor_shifted a 8 b hb))
+    ∙ ap (times 8) (times-xor 8 (a * 256) b (omega arith) (omega arith))
+    ∙ times-sum 8 (times 8 (a * 256)) (b * 256) (times-fits 8 (a * 256) (omega arith)) (omega arith)
+    ∙ sym
+    (ap₂ bit_xor (two-met 0 a 0 (omega arith) ha (omega arith) ∙ ap (λ (q : ℕ). times 8 (times 8 q)) z) (byte-met 0 b (omega arith) hb))
+
 residue_from : (r : ℕ) → r < 0x10000 → byte_taken (byte_taken r ((0xffff - r) / 256 % 256)) ((0xffff - r) % 256) ≡ 0x1d0f
 unfolding moved_up
 residue_from r hr =

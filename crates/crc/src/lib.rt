@@ -8,7 +8,7 @@ ghost use Rattle.crc.specs.Listings.{BitsTaken, BytesTaken, SealedMessages};
 mod table;
 
 use std::marker::Model;
-use table::FROM_EMPTY;
+use table::{FROM_EMPTY, FROM_TWO};
 
 // The polynomial, without its highest term.
 const POLYNOMIAL: u16 = 0x1021;
@@ -92,9 +92,25 @@ fn after_bytes(register: u16, bytes: &[u8]) -> u16
     ensures value { result ≡ fold byte_taken register bytes.now }
     ensures residue { fold byte_taken register (bytes.now ++ sent (0xffff - result)) ≡ 0x1d0f }
 {
-    bytes
-        .iter()
-        .fold(register, |value, byte| after_byte(value, *byte))
+    let mut value = register;
+    let mut left = bytes;
+    while let [first, second, rest @ ..] = left {
+        value = after_two(value, *first, *second);
+        left = rest;
+    }
+    if let [last] = left {
+        after_byte(value, *last)
+    } else {
+        value
+    }
+}
+
+// Two bytes at once, so that neither look-up waits for the other: each byte meets its half of the register.
+fn after_two(register: u16, first: u8, second: u8) -> u16
+    ensures { result ≡ byte_taken (byte_taken register first) second }
+{
+    let [high, low] = register.to_be_bytes();
+    from_two(high ^ first) ^ from_empty(low ^ second)
 }
 
 // The eight bits at once: the byte meets the register's upper half, and the lower half moves up whole.
@@ -121,4 +137,11 @@ fn from_empty(byte: u8) -> u16
     ensures { result ≡ byte_taken 0 byte }
 {
     FROM_EMPTY[usize::from(byte)]
+}
+
+// The empty register after a byte and 00, looked up.
+fn from_two(byte: u8) -> u16
+    ensures { result ≡ byte_taken (byte_taken 0 byte) 0 }
+{
+    FROM_TWO[usize::from(byte)]
 }
