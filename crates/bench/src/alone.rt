@@ -1,11 +1,10 @@
 // What a single does.
 ghost use Rattle.std.specs.Prelude.{◌≡◌, true, [], ◌∷◌};
-ghost use Rattle.std.proofs.Common.{lit≤};
 ghost use Rattle.frame.specs.Openings.{opening};
 ghost use Rattle.field.specs.Airs.{plainly};
 ghost use Rattle.field.specs.Sends.{on_air, Answered};
-ghost use Rattle.bench.specs.Benches.{tag_of};
-ghost use Rattle.field.proofs.Sizes.{one_sized};
+ghost use Rattle.bench.specs.Benches.{tag_of, tags_of};
+ghost use Rattle.field.proofs.Sizes.{single_few, single_sized};
 
 use crate::measuring::measure_tag;
 use crate::single::Single;
@@ -19,7 +18,8 @@ use std::slice;
 
 impl Single {
     pub fn new(tag: Tag) -> Single
-        ensures { tag_of result ≡ tag }
+        ensures tag { tag_of result ≡ tag }
+        ensures tags { tags_of result ≡ tag ∷ [] }
     {
         measure_tag(&tag);
         Single { tag }
@@ -27,32 +27,36 @@ impl Single {
 
     // Gives the tag back.
     pub fn into_tag(self) -> Tag
-        ensures { result ≡ tag_of self }
+        ensures tag { result ≡ tag_of self }
+        ensures tags { tags_of self ≡ result ∷ [] }
     {
+        measure_tag(&self.tag);
         self.tag
     }
 }
 
 impl Field for Single {
-    ghost tags = { λ s. tag_of s ∷ [] };
+    ghost tags = { tags_of };
 
-    ghost few = { λ _. lit≤ tt };
+    ghost few = { λ s. single_few (tag_of s) };
 
-    ghost sized = { λ s. one_sized s.tag s.sized };
+    ghost sized = { λ s. single_sized (tag_of s) };
 
     ghost faithful = { λ _. true };
 
     // It hears every lone reply as lone.
     ghost hears = { λ s bytes row answer t. Answered answer
-        (λ h. h ≡ plainly (on_air (opening bytes) row (tag_of s ∷ []))) s t };
+        (λ h. h ≡ plainly (on_air (opening bytes) row (tags_of s))) s t };
 
     ghost waits = { λ _ _ _. Unit {0} };
 
     fn places(&self) -> usize {
+        measure_tag(&self.tag);
         1
     }
 
     fn pass(&mut self, microseconds: u32) {
+        measure_tag(&self.tag);
         self.tag.pass(microseconds);
     }
 
@@ -60,12 +64,14 @@ impl Field for Single {
         if buffer.len() < ROOM {
             return Err(Refusal::Buffer);
         }
+        measure_tag(&self.tag);
         Ok(send_all(slice::from_mut(&mut self.tag), bytes, row, buffer))
     }
 }
 
 impl Lending for Single {
     fn tag(&self, place: usize) -> Option<&Tag> {
+        measure_tag(&self.tag);
         if place == 0 { Some(&self.tag) } else { None }
     }
 }

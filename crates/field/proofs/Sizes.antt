@@ -1,6 +1,7 @@
 -- Memories keep their 56 bytes, whatever their tags meet. Assumes nothing.
-use Rattle.std.proofs.Common.{◌≡◌, ℕ, ◌/◌, Bool, true, false, cond, List, [], ◌∷◌, map, length, ◌∙◌}
+use Rattle.std.proofs.Common.{◌≡◌, ℕ, ◌/◌, ◌≤◌, Bool, true, false, cond, List, [], ◌∷◌, map, length, nat_eq, refl, ◌∙◌, lit≤}
 use Rattle.std.specs.List.{AllByRecursion}
+use Rattle.std.proofs.lemmas.Bool.{eqb-true}
 use Rattle.std.proofs.lemmas.List.Elements.{All-cons, All-nil, All-from_recursion, recursion_from_All}
 use Rattle.frame.specs.Openings.{Opening, opening}
 use Rattle.record.specs.declared.Tag.{Tag}
@@ -15,6 +16,21 @@ IsSized t = length t.memory ≡ 56
 -- One tag on its own.
 pub one_sized : (t : Tag) → length t.memory ≡ 56 → Sized (t ∷ [])
 one_sized t h = All-cons IsSized t [] h (All-nil IsSized)
+
+-- The same of any tag, which of another length is left out.
+pub single_few : (t : Tag) → length (cond (nat_eq (length t.memory) 56) (t ∷ []) []) ≤ 64
+single_few t = go (nat_eq (length t.memory) 56)
+  where
+    go : (b : Bool) → length (cond b (t ∷ []) []) ≤ 64
+    go true = lit≤ tt
+    go false = lit≤ tt
+
+pub single_sized : (t : Tag) → Sized (cond (nat_eq (length t.memory) 56) (t ∷ []) [])
+single_sized t = go (nat_eq (length t.memory) 56) refl
+  where
+    go : (b : Bool) → nat_eq (length t.memory) 56 ≡ b → Sized (cond b (t ∷ []) [])
+    go true e = one_sized t (eqb-true (length t.memory) 56 e)
+    go false e = All-nil IsSized
 
 stepped_each : (frame : Opening) (row : ℕ) (tags : List Tag) → AllByRecursion IsSized tags → AllByRecursion IsSized (stepped_all frame row tags)
 unfolding stepped_all

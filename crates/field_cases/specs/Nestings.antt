@@ -1,12 +1,12 @@
 -- What a nesting means and promises: what the field in it does. Assumes nothing.
-use Rattle.std.specs.Prelude.{ℕ, Bool, List, [], ◌∷◌, Result}
+use Rattle.std.specs.Prelude.{ℕ, Bool, List, Result}
 use Rattle.protocol.specs.declared.refusal.Refusal.{Refusal}
 use Rattle.record.specs.declared.Tag.{Tag}
 use Rattle.field.specs.declared.field.Field.{Ghosts as Kind}
 use Rattle.field.specs.declared.hearing.Hearing.{Hearing}
 use Rattle.bench.specs.declared.bench.Bench.{Bench}
 use Rattle.bench.specs.declared.single.Single.{Single}
-use Rattle.bench.specs.Benches.{table_of, tag_of}
+use Rattle.bench.specs.Benches.{table_of, tags_of}
 use Rattle.layers.specs.declared.pair.Pair.{Pair}
 use Rattle.layers.specs.declared.spoiler.Spoiler.{Spoiler}
 use Rattle.layers.specs.Pairs.{left_of, right_of, paired}
@@ -18,7 +18,7 @@ use Rattle.field_cases.specs.declared.nesting.Node.TheVariants.{Bare, Spoiled, P
 
 abbrev pub leaf_tags : Leaf → List Tag
 leaf_tags (Table b) = (table_of b).now
-leaf_tags (Lone s) = tag_of s.value ∷ []
+leaf_tags (Lone s) = tags_of s
 
 abbrev pub node_tags : {F : Type 0} → (F → List Tag) → Node F → List Tag
 node_tags tags (Bare f) = tags f
@@ -28,16 +28,16 @@ node_tags tags (Paired p) = paired (tags (left_of p)) (tags (right_of p))
 module _ (on_bench : Kind Bench) (on_single : Kind Single) where
   abbrev pub leaf_faithful : Leaf → Bool
   leaf_faithful (Table b) = on_bench.faithful b
-  leaf_faithful (Lone s) = on_single.faithful s.value
+  leaf_faithful (Lone s) = on_single.faithful s
 
   abbrev pub leaf_hears : Leaf → List ℕ → ℕ → Result Hearing Refusal → Leaf → Type 0
   leaf_hears (Table b) bytes row answer (Table c) = on_bench.hears b bytes row answer c
-  leaf_hears (Lone s) bytes row answer (Lone t) = on_single.hears s.value bytes row answer t.value
+  leaf_hears (Lone s) bytes row answer (Lone t) = on_single.hears s bytes row answer t
   leaf_hears before bytes row answer after = ⊥
 
   abbrev pub leaf_waits : Leaf → ℕ → Leaf → Type 0
   leaf_waits (Table b) us (Table c) = on_bench.waits b us c
-  leaf_waits (Lone s) us (Lone t) = on_single.waits s.value us t.value
+  leaf_waits (Lone s) us (Lone t) = on_single.waits s us t
   leaf_waits before us after = ⊥
 
 module _ {F : Type 0} (bare : Kind F) (spoiled : Kind (Spoiler F)) (both : Kind (Pair F F)) where

@@ -1,5 +1,5 @@
 // A field, built as words say: `bench N`, `single`, `pair LEFT RIGHT`, `spoiler K BELOW`.
-ghost use Rattle.std.specs.Prelude.{◌≡◌, ◌<◌, [], ◌∷◌, ◌++◌, length, IfOk, OnErr};
+ghost use Rattle.std.specs.Prelude.{◌≡◌, ◌<◌, [], ◌++◌, length, IfOk, OnErr};
 ghost use Rattle.field_cases.specs.Builds.{parts_tags};
 ghost use Rattle.field_cases.specs.Listings.{PartsTaken, NodesNested};
 ghost use Rattle.field_cases.specs.Nestings.{leaf_tags, node_tags};
@@ -16,7 +16,6 @@ use layers::spoiler::Spoiler;
 use protocol::refusal::Refusal;
 use record::Tag;
 use spelling::words::word;
-use std::alloc::Global;
 use std::iter::Peekable;
 use std::mem;
 use std::num::ParseIntError;
@@ -46,7 +45,6 @@ impl<T: Drop> From<Declined<T>> for Trouble {
 // What fields are built from: the words of a nesting, one after the other, and the tags that none has yet.
 #[derive(Drop)]
 pub struct Source<'w, 'a> {
-    heap: Global,
     words: Peekable<SplitWhitespace<'w>>,
     tags: &'a mut [Tag],
 }
@@ -82,26 +80,16 @@ impl<'w, 'a> Source<'w, 'a> {
         self.tags = rest;
         Ok(front)
     }
-
-    // The first of the tags.
-    fn tag(&mut self) -> anyhow::Result<Tag>
-        ensures tag { IfOk result (λ t. self.old.tags.now ≡ t ∷ self.new.tags.now) }
-        ensures short { OnErr result (self.old.tags.now ≡ []) }
-    {
-        Ok(*self.table(1)?.first().context("too few tags")?)
-    }
 }
 
 // The field that a nesting means, of all tags of a table.
 pub(crate) fn built<'a, F: Build<'a> + Drop>(
-    heap: Global,
     nesting: &str,
     tags: &'a mut [Tag],
 ) -> Result<Node<F>, Trouble>
     ensures { IfOk result (λ n. node_tags F.tags n ≡ tags.old) }
 {
     let mut source = Source {
-        heap,
         words: nesting.split_whitespace().peekable(),
         tags,
     };
@@ -140,16 +128,11 @@ fn bench_leaf<'a>(source: &mut Source<'_, 'a>) -> Result<Leaf<'a>, Trouble>
 }
 
 fn single_leaf<'a>(source: &mut Source<'_, 'a>) -> Result<Leaf<'a>, Trouble>
-    ensures { IfOk result (λ leaf. source.old.tags.now ≡ leaf_tags leaf ++ source.new.tags.now) }
+    ensures tags { IfOk result (λ leaf. source.old.tags.now ≡ leaf_tags leaf ++ source.new.tags.now) }
+    ensures short { OnErr result (source.old.tags.now ≡ []) }
 {
-    let tag = source.tag()?;
-    Ok(Leaf::Lone(boxed(source.heap, Single::new(tag))?))
-}
-
-fn boxed(heap: Global, single: Single) -> anyhow::Result<Box<Single>>
-    ensures { IfOk result (λ b. b.value ≡ single) }
-{
-    Ok(Box::new(heap, single)?)
+    let tag = source.table(1)?.first().context("too few tags")?;
+    Ok(Leaf::Lone(Single::new(*tag)))
 }
 
 // What a layer is made of, before it is put on.

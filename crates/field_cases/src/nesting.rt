@@ -18,12 +18,11 @@ use record::Tag;
 pub type Below<'a> = Node<Node<Leaf<'a>>>;
 
 // What stands at the bottom. An enum hands each call on by a match: a boxed `dyn` would need the same calls handed on
-// for the box, and an allocation for each layer. A single is boxed, since the toolchain proves nothing of what holds it
-// by value beside a table that is lent.
+// for the box, and an allocation for each layer.
 #[derive(Drop)]
 pub enum Leaf<'a> {
     Table(Bench<'a>),
-    Lone(Box<Single>),
+    Lone(Single),
 }
 
 impl<'a> Field for Leaf<'a> {
@@ -31,12 +30,12 @@ impl<'a> Field for Leaf<'a> {
 
     ghost few = { elim [
       | leaf.Table b ↦ ⟦<Bench<'a> as Field>⟧.few b
-      | leaf.Lone b ↦ ⟦<Single as Field>⟧.few b.value
+      | leaf.Lone s ↦ ⟦<Single as Field>⟧.few s
     ] };
 
     ghost sized = { elim [
       | leaf.Table b ↦ ⟦<Bench<'a> as Field>⟧.sized b
-      | leaf.Lone b ↦ ⟦<Single as Field>⟧.sized b.value
+      | leaf.Lone s ↦ ⟦<Single as Field>⟧.sized s
     ] };
 
     ghost faithful = { leaf_faithful ⟦<Bench<'a> as Field>⟧ ⟦<Single as Field>⟧ };

@@ -115,7 +115,7 @@ fn perform<'a, F: Build<'a> + Drop>(
     nesting: &str,
     questions: &[String],
 ) -> anyhow::Result<()> {
-    match built::<F>(rt.alloc(), nesting, table) {
+    match built::<F>(nesting, table) {
         Ok(field) => {
             println!(rt; "places {} {}", field.places(), of_tags(&field))?;
             answer_all(rt, field, questions)

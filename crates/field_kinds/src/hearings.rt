@@ -5,8 +5,6 @@ use crate::heard::hear;
 use bench::single::Single;
 use compare::agreeing::agree;
 use field::field::Field;
-use field::lending::Lending;
-use spelling::sample::numbered_tag;
 use spelling::sent::framed;
 
 // Sends a frame to a field, and prints what it hears.
@@ -39,13 +37,12 @@ fn play<B: Field, P: Field, S: Field>(
     Ok(())
 }
 
-// The pair is of any field and a bench here: of a single and a bench the toolchain gets no proof today.
-fn show_beside<F: Lending + Drop>(rt: &HostRuntime, first: F) -> anyhow::Result<()> {
+pub(crate) fn show(rt: &HostRuntime) -> anyhow::Result<()> {
     let mut parted = crowd();
     let mut below = crowd();
     let mut table = crowd();
     let mut bench = bench_over(&mut table)?;
-    let mut pair = pair_of(first, bench_over(&mut parted[1..])?)?;
+    let mut pair = pair_of(Single::new(parted[0]), bench_over(&mut parted[1..])?)?;
     let mut spoiler = spoiler_of(bench_over(&mut below)?, 2)?;
     println!(rt;
         "four tags: on a bench, in a pair of one and three, and where each second lone reply is spoiled"
@@ -54,8 +51,4 @@ fn show_beside<F: Lending + Drop>(rt: &HostRuntime, first: F) -> anyhow::Result<
     let agree = agree(&bench, &pair) && agree(&bench, &spoiler);
     println!(rt; "tags agree: {}", if agree { "yes" } else { "no" })?;
     Ok(())
-}
-
-pub(crate) fn show(rt: &HostRuntime) -> anyhow::Result<()> {
-    show_beside(rt, Single::new(numbered_tag(1)))
 }

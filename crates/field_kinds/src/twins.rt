@@ -12,7 +12,6 @@ use history::desk::Desk;
 use rows::list::Rows;
 use slot::lists::Lists;
 use slot::row::{BLANK, Serial, SlotRow};
-use spelling::sample::numbered_tag;
 
 // SCROLL, which no tag answers before it is selected.
 const SCROLL: [u8; 3] = [0x09, 0x8f, 0x26];
@@ -99,16 +98,11 @@ fn play_both<L: Lending, R: Lending>(
     Ok(())
 }
 
-// The pair is of any field and a bench here: of a single and a bench the toolchain gets no proof today.
-fn show_beside<F: Lending + Drop>(rt: &HostRuntime, first: F) -> anyhow::Result<()> {
+pub(crate) fn show(rt: &HostRuntime) -> anyhow::Result<()> {
     let mut table = crowd();
     let mut parted = crowd();
     let mut left = bench_over(&mut table)?;
-    let below = pair_of(first, bench_over(&mut parted[1..])?)?;
+    let below = pair_of(Single::new(parted[0]), bench_over(&mut parted[1..])?)?;
     let mut right = spoiler_of(below, 2)?;
     play_both(rt, &mut left, &mut right)
-}
-
-pub(crate) fn show(rt: &HostRuntime) -> anyhow::Result<()> {
-    show_beside(rt, Single::new(numbered_tag(1)))
 }
