@@ -30,7 +30,8 @@ impl Reply {
     #[tactic(auto, using(crate::proofs::Listed::stretches, crate::proofs::Listed::written_replies))]
     pub fn write(self, tag: &Tag, buffer: &mut [u8]) -> Result<usize, Refusal>
         ensures answer { answer_of result ≡ answering (writing (sealed (data_of tag.now self)) (length buffer.old)) }
-        ensures buffer { buffer.new ≡ leaving (writing (sealed (data_of tag.now self)) (length buffer.old)) buffer.old }
+        ensures buffer { buffer.new ≡
+            leaving (writing (sealed (data_of tag.now self)) (length buffer.old)) buffer.old }
         ensures longest { length (sealed (data_of tag.now self)) ≤ 258 }
         ensures memory { Stretches }
         ensures worked { WrittenReplies }
