@@ -144,7 +144,7 @@ counts_closed c (Err s) = c
 
 -- READs are commands, and no slots.
 abbrev pub counts_read : Counts → ℕ → Counts
-counts_read c commands = record { lone = c.lone; silent = c.silent; clash = c.clash; commands = commands }
+counts_read c commands = record c { commands = commands }
 
 -- A slot is listed as it opens.
 abbrev pub row_of : Command → Slot → SlotRow

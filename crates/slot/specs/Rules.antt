@@ -121,61 +121,25 @@ read_by Clash serial = in_reading serial
 
 -- The sweep once a deed is done and something is heard.
 abbrev pub done : Deed → Hearing → Play → Play
-done (stops n) h p =
-    record {
-      phase = ended n;
-      waiting = p.waiting;
-      next = p.next;
-      commands = p.commands;
-      reads = p.reads;
-      slots = p.slots;
-      serials = p.serials;
-      tags = p.tags;
-    }
+done (stops n) h p = record p { phase = ended n }
 done (opens c frame row g next) h p =
-    record {
+    record p {
       phase = opened_by h (on_air (opening frame) row p.tags);
       waiting = g;
       next = next;
       commands = p.commands + 1;
-      reads = p.reads;
       slots = p.slots ++ record { command = c; hearing = h; waiting = g } ∷ [];
-      serials = p.serials;
       tags = stepped_all (opening frame) row p.tags;
     }
-done (lists serial) h p =
-    record {
-      phase = in_reading serial;
-      waiting = p.waiting;
-      next = p.next;
-      commands = p.commands;
-      reads = p.reads;
-      slots = p.slots;
-      serials = p.serials ++ serial ∷ [];
-      tags = p.tags;
-    }
+done (lists serial) h p = record p { phase = in_reading serial; serials = p.serials ++ serial ∷ [] }
 done (reads serial) h p =
-    record {
+    record p {
       phase = read_by h serial;
-      waiting = p.waiting;
-      next = p.next;
       commands = p.commands + 1;
       reads = p.reads + 1;
-      slots = p.slots;
-      serials = p.serials;
       tags = stepped_all (opening (read serial)) 0 p.tags;
     }
-done closes h p =
-    record {
-      phase = ended 0;
-      waiting = p.waiting;
-      next = p.next;
-      commands = p.commands + 1;
-      reads = p.reads;
-      slots = p.slots;
-      serials = p.serials;
-      tags = stepped_all (opening again) 0 p.tags;
-    }
+done closes h p = record p { phase = ended 0; commands = p.commands + 1; tags = stepped_all (opening again) 0 p.tags }
 done rests h p = p
 
 -- One deed more.

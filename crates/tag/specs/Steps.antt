@@ -8,12 +8,12 @@ use Rattle.record.specs.declared.WriteMark.TheVariants.{Clear, Fresh}
 use Rattle.record.specs.declared.Tag.{Tag}
 use Rattle.record.specs.Masks.{matches, stored}
 use Rattle.tag.specs.Orders.{Order, select, unselect_ne, unselect_id_flag, unselect_noid_flag, query, scroll, again, reset, read, verify, write, lock, qlock, damaged, unknown, order}
-use Rattle.record.specs.Records.{fallen, is_write_ok, locked_at, bytes_from, serial_of, in_state, flagging, counting_to, marking, permitting, remembering, locking}
+use Rattle.record.specs.Records.{fallen, is_write_ok, locked_at, bytes_from, serial_of}
 use Rattle.reply.specs.Replies.{sounding}
 
 -- What every frame does first to a tag. The old permission serves this frame only.
 abbrev pub met : Tag → Tag
-met t = permitting None (marking (fallen t.mark) t)
+met t = record t { mark = fallen t.mark; permission = None }
 
 -- The first for a tag in SINGULATION, the second for any other.
 abbrev pub if_singulated : {X : Type 0} → State → X → X → X
@@ -35,11 +35,11 @@ is_chosen Inventoried matching = false
 
 -- A tag that is selected, from the first turn on.
 abbrev pub joined : Tag → Tag
-joined t = in_state Singulation (counting_to 0 t)
+joined t = record t { state = Singulation; counter = 0 }
 
 -- The three UNSELECTs: a tag leaves silently, or stays and replies its serial number.
 abbrev pub unselected : Bool → Tag → Tag
-unselected leaves t = cond leaves (in_state Ready t) (joined t)
+unselected leaves t = cond leaves (record t { state = Ready }) (joined t)
 
 abbrev pub staying : Bool → Tag → Option (List ℕ)
 staying leaves t = cond leaves None (Some (serial_of t))
@@ -54,7 +54,7 @@ drawn coin n = cond (nat_lt 0 n || coin) (risen n) n
 
 -- A tag at which a reader has read or written: INVENTORIED, with its ID flag set.
 abbrev pub moved : Tag → Tag
-moved t = in_state Inventoried (flagging true t)
+moved t = record t { state = Inventoried; identified = true }
 
 -- VERIFY: only under WRITE_OK does a tag move.
 abbrev pub verified : Tag → Tag
@@ -66,8 +66,8 @@ is_writable t a = a % 4 == 0 && not (locked_at t a || locked_at t (a + 1) || loc
 
 abbrev pub written : ℕ → ℕ → List ℕ → Tag → Tag
 written a mask bytes t =
-    cond (is_writable t a) (permitting (Some a) (marking Fresh (remembering (stored a mask bytes t.memory 4) (moved t))))
-    (marking Clear (moved t))
+    cond (is_writable t a) (record (moved t) { memory = stored a mask bytes t.memory 4; mark = Fresh; permission = Some a })
+    (record (moved t) { mark = Clear })
 
 -- Whether LOCK may lock an address: it was permitted, and is at most 37.
 abbrev pub is_lockable : Option ℕ → ℕ → Bool
@@ -75,7 +75,7 @@ is_lockable None a = false
 is_lockable (Some p) a = p == a && nat_lt a 56
 
 abbrev pub locked : Option ℕ → ℕ → Tag → Tag
-locked permitted a t = cond (is_lockable permitted a) (marking Fresh (locking (slice_set t.locks a true) t)) (marking Clear t)
+locked permitted a t = cond (is_lockable permitted a) (record t { locks = slice_set t.locks a true; mark = Fresh }) (record t { mark = Clear })
 
 -- What QLOCK tells of a byte.
 abbrev pub lock_status : Bool → Bool → ℕ
@@ -91,16 +91,16 @@ obeyed (select a mask word) coin permitted t = cond (is_chosen t.state (matches 
 obeyed (unselect_ne a mask word) coin permitted t = if_singulated t.state (unselected (not (matches t.memory a mask word)) t) t
 obeyed unselect_id_flag coin permitted t = if_singulated t.state (unselected t.identified t) t
 obeyed unselect_noid_flag coin permitted t = if_singulated t.state (unselected (not t.identified) t) t
-obeyed query coin permitted t = if_singulated t.state (counting_to (drawn coin t.counter) t) t
-obeyed scroll coin permitted t = if_singulated t.state (counting_to (t.counter - 1) t) t
+obeyed query coin permitted t = if_singulated t.state (record t { counter = drawn coin t.counter }) t
+obeyed scroll coin permitted t = if_singulated t.state (record t { counter = t.counter - 1 }) t
 obeyed again coin permitted t = t
-obeyed reset coin permitted t = in_state Ready (flagging false t)
-obeyed (read serial a n) coin permitted t = cond (is_meant t serial) (permitting (Some a) (moved t)) t
+obeyed reset coin permitted t = record t { state = Ready; identified = false }
+obeyed (read serial a n) coin permitted t = cond (is_meant t serial) (record (moved t) { permission = Some a }) t
 obeyed (verify serial a) coin permitted t = cond (is_meant t serial) (verified t) t
 obeyed (write serial a mask bytes) coin permitted t = cond (is_meant t serial) (written a mask bytes t) t
 obeyed (lock serial a) coin permitted t = cond (is_meant t serial) (if_inventoried t.state (locked permitted a t) t) t
-obeyed (qlock serial a) coin permitted t = cond (is_meant t serial) (permitting (Some a) (moved t)) t
-obeyed damaged coin permitted t = in_state Ready t
+obeyed (qlock serial a) coin permitted t = cond (is_meant t serial) (record (moved t) { permission = Some a }) t
+obeyed damaged coin permitted t = record t { state = Ready }
 obeyed unknown coin permitted t = t
 
 -- The serial number, if it is a tag's turn: its counter is 0.
