@@ -1,5 +1,5 @@
 -- What becomes of tags in a whole sweep, and which of them it reports: by no coin, and by no hearing. Assumes nothing.
-use Rattle.std.specs.Prelude.{◌≡◌, ℕ, ◌≤◌, Bool, cond, List, map, None, count_by, filter}
+use Rattle.std.specs.Prelude.{◌≡◌, ℕ, ◌≤◌, Bool, if◌then◌else◌, List, map, None, count_by, filter}
 use Rattle.std.specs.Str.{bytes_eq}
 use Rattle.record.specs.declared.WriteMark.TheVariants.{Clear}
 use Rattle.record.specs.declared.Tag.{Tag}
@@ -17,7 +17,7 @@ is_due t = is_chosen t.state (matches t.memory 0x00 0xc0 word)
 
 -- A tag once a whole sweep is over. One that was due has been read.
 abbrev pub fate_of : Tag → Tag
-fate_of t = record (cond (is_due t) (moved (record t { counter = 0 })) t) { mark = Clear; permission = None }
+fate_of t = record (if is_due t then moved (record t { counter = 0 }) else t) { mark = Clear; permission = None }
 
 -- How many times a serial number is listed.
 abbrev pub times : List ℕ → List (List ℕ) → ℕ
