@@ -1,5 +1,5 @@
--- The check value: a 16-bit register, preset to FFFF, takes the bits of each byte, the highest first, with the
--- polynomial 1021. What is sent is the register inverted, high byte first. Assumes nothing.
+-- The check value, which is CRC-16/GENIBUS: a 16-bit register, preset to FFFF, takes the bits of each byte, the highest
+-- first, with the polynomial 1021. What is sent is the register inverted, high byte first. Assumes nothing.
 use Rattle.std.specs.Prelude.{ℕ, ◌-◌, ◌*◌, ◌/◌, ◌%◌, if◌then◌else◌, List, [], ◌∷◌, ◌++◌, fold, bit_xor, nat_lt}
 
 -- The register one place further up. A 1 that falls out at the top brings the polynomial in.
