@@ -1,5 +1,5 @@
 -- What a frame changes in the ID flag of a tag. Assumes nothing.
-use Rattle.std.specs.Prelude.{◌≡◌, ℕ, Bool, true, false, if◌then◌else◌, ◌&&◌, ◌||◌}
+use Rattle.std.specs.Prelude.{◌≡◌, ℕ, Bool, true, false, if◌then◌else◌, ◌&&◌, ◌||◌, IsTrue, IsFalse}
 use Rattle.protocol.specs.declared.command.Command.TheVariants.{Reset, Read, Verify, Qlock, ReadFlexible, Write}
 use Rattle.frame.specs.Openings.{Opening, refused}
 use Rattle.record.specs.declared.Tag.{Tag}
@@ -20,4 +20,4 @@ pub record Flagged (frame : Opening) (before after : Tag) : Type 0 where
   -- A frame that does not open, as with a wrong check value, neither sets nor clears it.
   pub refusals : (n : ℕ) → frame ≡ refused n → after.identified ≡ before.identified
   -- RESET alone clears it.
-  pub cleared : before.identified ≡ true → after.identified ≡ false → is_a Reset frame ≡ true
+  pub cleared : IsTrue before.identified → IsFalse after.identified → IsTrue (is_a Reset frame)
