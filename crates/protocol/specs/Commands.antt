@@ -1,4 +1,4 @@
--- The fourteen commands: codes, names, parameters in order, and the length of a frame. Assumes nothing.
+-- The fourteen commands and their parameters: codes, names, the order, sizes, and the length of a frame. Assumes nothing.
 use Rattle.std.specs.Prelude.{ℕ, ◌+◌, List, [], ◌∷◌, codes, find, Option, ◌==◌}
 use Rattle.protocol.specs.declared.command.Command.{Command}
 use Rattle.protocol.specs.declared.command.Command.TheVariants.{Select, UnselectNe, UnselectIdFlag, UnselectNoidFlag, Query, Scroll, Repeat, Reset, Read, Verify, Lock, Qlock, ReadFlexible, Write}
@@ -35,15 +35,22 @@ code_of c = (form_of c).code
 abbrev pub layout : Command → List Parameter
 layout c = (form_of c).parameters
 
--- How many bytes a parameter has.
+-- A parameter by its name, and by how many bytes it has.
+pub record Shape : Type 0 where
+  pub name : List ℕ
+  pub size : ℕ
+
+abbrev pub shape_of : Parameter → Shape
+shape_of Serial = record { name = codes "SNR"; size = 8 }
+shape_of Address = record { name = codes "ADDRESS"; size = 1 }
+shape_of Mask = record { name = codes "BYTE_MASK"; size = 1 }
+shape_of Word = record { name = codes "WORD_DATA"; size = 8 }
+shape_of Data = record { name = codes "BLOCK_DATA"; size = 4 }
+shape_of Length = record { name = codes "LENGTH"; size = 1 }
+shape_of Ignored = record { name = codes "IGNORED"; size = 2 }
+
 abbrev pub size_of : Parameter → ℕ
-size_of Serial = 8
-size_of Address = 1
-size_of Mask = 1
-size_of Word = 8
-size_of Data = 4
-size_of Length = 1
-size_of Ignored = 2
+size_of p = (shape_of p).size
 
 abbrev pub sizes : List Parameter → ℕ
 sizes [] = 0

@@ -2,22 +2,15 @@
 use Rattle.std.specs.Prelude.{ℕ, List, codes}
 use Rattle.protocol.specs.declared.command.Command.{Command}
 use Rattle.protocol.specs.declared.command.Parameter.{Parameter}
-use Rattle.protocol.specs.declared.command.Parameter.TheVariants.{Serial, Address, Mask, Word, Data, Length, Ignored}
 use Rattle.protocol.specs.declared.refusal.Refusal.{Refusal}
 use Rattle.protocol.specs.declared.refusal.Refusal.TheVariants as refusal
-use Rattle.protocol.specs.Commands.{form_of}
+use Rattle.protocol.specs.Commands.{form_of, shape_of}
 
 abbrev pub command_name : Command → List ℕ
 command_name c = (form_of c).name
 
 abbrev pub parameter_name : Parameter → List ℕ
-parameter_name Serial = codes "SNR"
-parameter_name Address = codes "ADDRESS"
-parameter_name Mask = codes "BYTE_MASK"
-parameter_name Word = codes "WORD_DATA"
-parameter_name Data = codes "BLOCK_DATA"
-parameter_name Length = codes "LENGTH"
-parameter_name Ignored = codes "IGNORED"
+parameter_name p = (shape_of p).name
 
 abbrev pub refusal_name : Refusal → List ℕ
 refusal_name refusal.Stub = codes "stub"
