@@ -1,12 +1,12 @@
 // Whether two fields have the same tags.
-ghost use Rattle.std.specs.Prelude.{◌≡◌, Decides};
+ghost use Rattle.std.specs.Prelude.{◌≡◌, ◌↔◌, IsTrue};
 ghost use Rattle.compare.specs.Places.{alike_at};
 
 use field::lending::Lending;
 
 // Place by place, and in every part.
 pub fn agree<L: Lending, R: Lending>(left: &L, right: &R) -> bool
-    ensures { Decides result (L.tags left.now ≡ R.tags right.now) }
+    ensures { IsTrue result ↔ (L.tags left.now ≡ R.tags right.now) }
 {
     left.places() == right.places() && (0..left.places()).all(|place| agree_at(left, right, place))
 }

@@ -1,10 +1,10 @@
--- The check value: a 16-bit register, preset to FFFF, takes the bits of each byte, the highest first, with the
--- polynomial 1021. What is sent is the register inverted, high byte first. Assumes nothing.
-use Rattle.std.specs.Prelude.{ℕ, ◌-◌, ◌*◌, ◌/◌, ◌%◌, cond, List, [], ◌∷◌, ◌++◌, fold, bit_xor, nat_lt}
+-- The check value, which is CRC-16/GENIBUS: a 16-bit register, preset to FFFF, takes the bits of each byte, the highest
+-- first, with the polynomial 1021. What is sent is the register inverted, high byte first. Assumes nothing.
+use Rattle.std.specs.Prelude.{ℕ, ◌-◌, ◌*◌, ◌/◌, ◌%◌, if◌then◌else◌, List, [], ◌∷◌, ◌++◌, fold, bit_xor, nat_lt}
 
 -- The register one place further up. A 1 that falls out at the top brings the polynomial in.
 unfoldable pub moved_up : ℕ → ℕ
-moved_up r = cond (nat_lt r 0x8000) (r * 2) (bit_xor (r * 2 - 0x10000) 0x1021)
+moved_up r = if nat_lt r 0x8000 then r * 2 else bit_xor (r * 2 - 0x10000) 0x1021
 
 -- The register after one more bit, 0 or 1, which meets the top of the register before it moves.
 unfoldable pub bit_taken : ℕ → ℕ → ℕ

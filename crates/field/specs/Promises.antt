@@ -1,5 +1,5 @@
 -- What a call makes of a field: what all fields do, and what its kind promises beside that. Assumes nothing.
-use Rattle.std.specs.Prelude.{◌≡◌, ℕ, true, List, Ok}
+use Rattle.std.specs.Prelude.{◌≡◌, ℕ, List, Ok, IsTrue}
 use Rattle.frame.specs.Openings.{opening}
 use Rattle.field.specs.declared.field.Field.{Ghosts as Kind}
 use Rattle.field.specs.declared.hearing.Hearing.{Hearing}
@@ -10,7 +10,7 @@ use Rattle.field.specs.Sends.{stepped_all, on_air, gapped_all}
 pub record AfterSend {F : Type 0} (kind : Kind F) (frame : List ℕ) (row : ℕ) (heard : Hearing) (before after : F) : Type 0 where
   pub tags : kind.tags after ≡ stepped_all (opening frame) row (kind.tags before)
   pub may_be : MayHear (on_air (opening frame) row (kind.tags before)) heard
-  pub plain : kind.faithful before ≡ true → heard ≡ plainly (on_air (opening frame) row (kind.tags before))
+  pub plain : IsTrue (kind.faithful before) → heard ≡ plainly (on_air (opening frame) row (kind.tags before))
   pub as_faithful : kind.faithful after ≡ kind.faithful before
   pub promise : kind.hears before frame row (Ok heard) after
 

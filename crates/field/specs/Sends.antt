@@ -1,5 +1,6 @@
 -- What a send and a gap do to a list of tags, whatever field they are in. Assumes nothing.
-use Rattle.std.specs.Prelude.{◌≡◌, ℕ, ◌-◌, ◌/◌, ◌%◌, ◌^◌, Bool, cond, List, [], ◌∷◌, ◌++◌, map, min, length, drop, replicate, All, Ok, Err, Result, ◌==◌, nat_lt}
+use Rattle.std.specs.Prelude.{◌≡◌, ℕ, ◌-◌, ◌/◌, ◌%◌, ◌^◌, Bool, if◌then◌else◌, ◌∷◌, ◌++◌, ◌==◌}
+use Rattle.std.specs.Prelude.{List, [], map, min, length, drop, replicate, All, Ok, Err, Result, nat_lt}
 use Rattle.std.specs.Option.{option_map}
 use Rattle.std.specs.List.{slice_get}
 use Rattle.protocol.specs.declared.refusal.Refusal.{Refusal}
@@ -42,7 +43,7 @@ is_short room = nat_lt room 258
 
 -- The tags after a send.
 abbrev pub sent_to : ℕ → List ℕ → ℕ → List Tag → List Tag
-sent_to room bytes row tags = cond (is_short room) tags (stepped_all (opening bytes) row tags)
+sent_to room bytes row tags = if is_short room then tags else stepped_all (opening bytes) row tags
 
 -- Some bytes followed by 00, so many in all.
 unfoldable pub padded : ℕ → List ℕ → List ℕ

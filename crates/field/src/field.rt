@@ -1,6 +1,6 @@
 // The trait of all fields.
-ghost use Rattle.std.specs.Prelude.{◌≡◌, ℕ, ◌≤◌, if◌then◌else◌, Bool, true, List, length, Some, None, Result};
-ghost use Rattle.std.specs.Prelude.{IfOk, OnErr, OnOk};
+ghost use Rattle.std.specs.Prelude.{◌≡◌, ℕ, ◌≤◌, if◌then◌else◌, Bool, List, length, Some, None, Result};
+ghost use Rattle.std.specs.Prelude.{IsTrue, IfOk, OnErr, OnOk};
 ghost use Rattle.protocol.specs.declared.refusal.Refusal.{Refusal};
 ghost use Rattle.protocol.specs.Refusals.{refusal_in};
 ghost use Rattle.frame.specs.Openings.{opening};
@@ -59,7 +59,7 @@ pub trait Field {
         ensures tags { tags self.new ≡ sent_to (length buffer.old) bytes.now row (tags self.old) }
         ensures hearing { IfOk result (λ h. MayHear (on_air (opening bytes.now) row (tags self.old)) h) }
         ensures faithful { IfOk result
-            (λ h. faithful self.old ≡ true → h ≡ plainly (on_air (opening bytes.now) row (tags self.old))) }
+            (λ h. IsTrue (faithful self.old) → h ≡ plainly (on_air (opening bytes.now) row (tags self.old))) }
         ensures as_faithful { faithful self.new ≡ faithful self.old }
         ensures buffer { buffer.new ≡ left_in result (on_air (opening bytes.now) row (tags self.old)) buffer.old }
         ensures places { OnOk result

@@ -35,16 +35,16 @@ within-placed frame behind offset (p ∷ ps) bytes l e short =
           (sym (drop-drop n offset frame) ∙ ap (drop n) e ∙ drop-append-le n bytes behind fits) (simp length-drop (omega arith)),
     )
 
-sealed-length : (message : List ℕ) → length (sealed message) ≡ length message + 2
+pub sealed-length : (message : List ℕ) → length (sealed message) ≡ length message + 2
 unfolding sealed
 sealed-length message = length-append message (sent (check_value message))
 
-is-sealed : (message : List ℕ) → is_sealed (sealed message) ≡ true
+pub is-sealed : (message : List ℕ) → is_sealed (sealed message) ≡ true
 unfolding is_sealed
 is-sealed message =
     (bytes_eq-Decides (sealed message) (sealed (front (sealed message)))).1 (ap sealed (sym (front-sealed message)))
 
-first_byte : (code : ℕ) (parameters : List ℕ) → get_or (sealed (code ∷ parameters)) 0 0 ≡ code
+pub first_byte : (code : ℕ) (parameters : List ℕ) → get_or (sealed (code ∷ parameters)) 0 0 ≡ code
 unfolding sealed
 first_byte code parameters = refl
 

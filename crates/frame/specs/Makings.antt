@@ -1,5 +1,6 @@
 -- Making: which frame a code and its parameters have, and which refusal meets what has none. Assumes nothing.
-use Rattle.std.specs.Prelude.{◌≡◌, ℕ, ◌+◌, cond, List, ◌∷◌, ◌++◌, length, drop, Some, None, Option, ◌==◌, nat_lt}
+use Rattle.std.specs.Prelude.{◌≡◌, ℕ, ◌+◌, if◌then◌else◌, ◌∷◌, ◌++◌, ◌==◌}
+use Rattle.std.specs.Prelude.{List, length, drop, Some, None, Option, nat_lt}
 use Rattle.crc.specs.Check.{sealed}
 use Rattle.protocol.specs.declared.command.Command.{Command}
 use Rattle.protocol.specs.Commands.{length_of, named}
@@ -16,8 +17,8 @@ pub data Making : Type 0 where
 abbrev pub for_command : Option Command → ℕ → List ℕ → ℕ → Making
 for_command None code parameters room = unmade 3
 for_command (Some c) code parameters room =
-    cond (length parameters + 3 == length_of c)
-    (cond (nat_lt room (length_of c)) (unmade 5) (made (sealed (code ∷ parameters)))) (unmade 4)
+    if length parameters + 3 == length_of c then
+    (if nat_lt room (length_of c) then unmade 5 else made (sealed (code ∷ parameters))) else unmade 4
 
 -- Making, in a buffer with some room: the refusals in the order in which they are tried, and else the frame.
 unfoldable pub making : ℕ → List ℕ → ℕ → Making
@@ -35,7 +36,7 @@ leaving (made frame) buffer = frame ++ drop (length frame) buffer
 
 -- Writing some bytes into a buffer with some room: the bytes, or the refusal of a buffer too short.
 abbrev pub writing : List ℕ → ℕ → Making
-writing bytes room = cond (nat_lt room (length bytes)) (unmade 5) (made bytes)
+writing bytes room = if nat_lt room (length bytes) then unmade 5 else made bytes
 
 -- A frame opens as a code with some parameters.
 abbrev pub OpensAs : ℕ → List ℕ → List ℕ → Type 0

@@ -1,5 +1,6 @@
 -- Opening: what a frame says, and which refusal meets what is no frame. Assumes nothing.
-use Rattle.std.specs.Prelude.{ℕ, ◌-◌, Bool, cond, List, [], length, take, drop, Some, None, Ok, Err, Option, Result, ◌==◌, nat_lt, slice_index}
+use Rattle.std.specs.Prelude.{ℕ, ◌-◌, Bool, if◌then◌else◌, ◌==◌}
+use Rattle.std.specs.Prelude.{List, [], length, take, drop, Some, None, Ok, Err, Option, Result, nat_lt, slice_index}
 use Rattle.std.specs.Str.{bytes_eq}
 use Rattle.protocol.specs.declared.command.Command.{Command}
 use Rattle.frame.specs.declared.opening.Frame.{Frame}
@@ -32,12 +33,13 @@ parameters_of frame = drop 1 (front frame)
 abbrev pub by_name : Option Command → List ℕ → Opening
 by_name None frame = refused 3
 by_name (Some c) frame =
-    cond (length frame == length_of c) (opened (code_of c) c (placed 1 (layout c) (parameters_of frame))) (refused 4)
+    if length frame == length_of c then opened (code_of c) c (placed 1 (layout c) (parameters_of frame)) else refused 4
 
 -- Opening: the refusals in the order in which they are tried, and else the command with its parameters.
 unfoldable pub opening : List ℕ → Opening
 opening frame =
-    cond (nat_lt (length frame) 3) (refused 1) (cond (is_sealed frame) (by_name (named (slice_index frame 0)) frame) (refused 2))
+    if nat_lt (length frame) 3 then refused 1
+    else (if is_sealed frame then by_name (named (slice_index frame 0)) frame else refused 2)
 
 -- What a frame of the code shows: the bytes that it was opened from, their code, and what they ask.
 abbrev pub bytes_seen : Frame → List ℕ

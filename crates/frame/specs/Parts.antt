@@ -1,5 +1,6 @@
 -- Parameters in a frame. Assumes nothing.
-use Rattle.std.specs.Prelude.{◌≡◌, ℕ, ◌+◌, ◌≤◌, cond, List, [], ◌∷◌, length, take, drop, Some, None, Option, ◌==◌}
+use Rattle.std.specs.Prelude.{◌≡◌, ℕ, ◌+◌, ◌≤◌, if◌then◌else◌, ◌∷◌, ◌==◌}
+use Rattle.std.specs.Prelude.{List, [], length, take, drop, Some, None, Option}
 use Rattle.std.specs.List.{flat_map, AllByRecursion}
 use Rattle.protocol.specs.declared.command.Parameter.{Parameter}
 use Rattle.protocol.specs.declared.command.Parameter.TheVariants.{Serial, Address, Mask, Word, Data, Length, Ignored}
@@ -41,9 +42,10 @@ parameter_number Ignored = 6
 abbrev pub span_of : Parameter → List Part → Option Span
 span_of p [] = None
 span_of p (x ∷ xs) =
-    cond (parameter_number x.parameter == parameter_number p) (Some (record { offset = x.offset; length = length x.bytes })) (span_of p xs)
+    if parameter_number x.parameter == parameter_number p
+    then Some (record { offset = x.offset; length = length x.bytes }) else span_of p xs
 
 -- A parameter's bytes, none if it is not there.
 abbrev pub bytes_of : Parameter → List Part → List ℕ
 bytes_of p [] = []
-bytes_of p (x ∷ xs) = cond (parameter_number x.parameter == parameter_number p) x.bytes (bytes_of p xs)
+bytes_of p (x ∷ xs) = if parameter_number x.parameter == parameter_number p then x.bytes else bytes_of p xs

@@ -24,34 +24,25 @@ comparison_parts c = byte_part Address c.address ∷ byte_part Mask c.mask ∷ b
 abbrev pub target_parts : Target → List Part
 target_parts t = bytes_part Serial t.serial ∷ byte_part Address t.address ∷ []
 
-abbrev pub parts_of : Request → List Part
-parts_of (Select c) = comparison_parts c
-parts_of (UnselectNe c) = comparison_parts c
-parts_of (UnselectIdFlag b) = bytes_part Ignored b ∷ []
-parts_of (UnselectNoidFlag b) = bytes_part Ignored b ∷ []
-parts_of Query = []
-parts_of Scroll = []
-parts_of Repeat = []
-parts_of Reset = []
-parts_of (Read t) = target_parts t
-parts_of (Verify t) = target_parts t
-parts_of (Lock t) = target_parts t
-parts_of (Qlock t) = target_parts t
-parts_of (ReadFlexible t l) = target_parts t ++ byte_part Length l ∷ []
-parts_of (Write t m d) = target_parts t ++ byte_part Mask m ∷ bytes_part Data d ∷ []
+-- Its command and its parameters.
+abbrev pub said_by : Request → Command × List Part
+said_by (Select c) = (command.Select, comparison_parts c)
+said_by (UnselectNe c) = (command.UnselectNe, comparison_parts c)
+said_by (UnselectIdFlag b) = (command.UnselectIdFlag, bytes_part Ignored b ∷ [])
+said_by (UnselectNoidFlag b) = (command.UnselectNoidFlag, bytes_part Ignored b ∷ [])
+said_by Query = (command.Query, [])
+said_by Scroll = (command.Scroll, [])
+said_by Repeat = (command.Repeat, [])
+said_by Reset = (command.Reset, [])
+said_by (Read t) = (command.Read, target_parts t)
+said_by (Verify t) = (command.Verify, target_parts t)
+said_by (Lock t) = (command.Lock, target_parts t)
+said_by (Qlock t) = (command.Qlock, target_parts t)
+said_by (ReadFlexible t l) = (command.ReadFlexible, target_parts t ++ byte_part Length l ∷ [])
+said_by (Write t m d) = (command.Write, target_parts t ++ byte_part Mask m ∷ bytes_part Data d ∷ [])
 
 abbrev pub command_of : Request → Command
-command_of (Select c) = command.Select
-command_of (UnselectNe c) = command.UnselectNe
-command_of (UnselectIdFlag b) = command.UnselectIdFlag
-command_of (UnselectNoidFlag b) = command.UnselectNoidFlag
-command_of Query = command.Query
-command_of Scroll = command.Scroll
-command_of Repeat = command.Repeat
-command_of Reset = command.Reset
-command_of (Read t) = command.Read
-command_of (Verify t) = command.Verify
-command_of (Lock t) = command.Lock
-command_of (Qlock t) = command.Qlock
-command_of (ReadFlexible t l) = command.ReadFlexible
-command_of (Write t m d) = command.Write
+command_of r = (said_by r).0
+
+abbrev pub parts_of : Request → List Part
+parts_of r = (said_by r).1

@@ -1,5 +1,5 @@
 -- What a writer holds once bytes are put into its buffer. Assumes nothing.
-use Rattle.std.specs.Prelude.{◌≡◌, ℕ, ◌+◌, Bool, cond, List, ◌++◌, length, take, drop, fold, nat_le}
+use Rattle.std.specs.Prelude.{◌≡◌, ℕ, ◌+◌, Bool, if◌then◌else◌, List, ◌++◌, length, take, drop, fold, nat_le}
 use Rattle.std.specs.Borrow.{MutBor}
 use Rattle.crc.specs.Check.{byte_taken}
 use Rattle.frame.specs.declared.writer.Writer.{Writer}
@@ -27,7 +27,7 @@ pub record Begun (lent : MutBor (List ℕ)) (writer : Writer) : Type 0 where
 -- were there, and the register has taken them. Otherwise nothing has changed. The buffer is its lender's all the time.
 pub record Put (bytes : List ℕ) (before after : Writer) (done : Bool) : Type 0 where
   pub fits : done ≡ nat_le (before.filled + length bytes) (length before.buffer.now)
-  pub filled : after.filled ≡ cond done (before.filled + length bytes) before.filled
-  pub register : after.register ≡ cond done (fold byte_taken before.register bytes) before.register
-  pub buffer : after.buffer.now ≡ cond done (laid before.buffer.now before.filled bytes) before.buffer.now
+  pub filled : after.filled ≡ (if done then before.filled + length bytes else before.filled)
+  pub register : after.register ≡ (if done then fold byte_taken before.register bytes else before.register)
+  pub buffer : after.buffer.now ≡ (if done then laid before.buffer.now before.filled bytes else before.buffer.now)
   pub lender : after.buffer.ghost_name ≡ before.buffer.ghost_name

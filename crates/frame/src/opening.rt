@@ -1,5 +1,5 @@
 // Opening a frame: what it asks, and where each parameter lies in the caller's bytes.
-ghost use Rattle.std.specs.Prelude.{◌≡◌, ◌≤◌, true, length, IfOk, IfErr, OnOk, slice_index};
+ghost use Rattle.std.specs.Prelude.{◌≡◌, ◌≤◌, length, IsTrue, IfOk, IfErr, OnOk, slice_index};
 ghost use Rattle.frame.specs.Cases.{DamagedFrames};
 ghost use Rattle.frame.specs.Listings.{OpenedFrames, RefusedFrames};
 ghost use Rattle.frame.specs.Makings.{making, made};
@@ -69,7 +69,7 @@ struct Sealed<'a> {
     code: u8,
     parameters: &'a [u8],
     ghost long: { 3 ≤ length bytes.now },
-    ghost right: { is_sealed bytes.now ≡ true },
+    ghost right: { IsTrue (is_sealed bytes.now) },
     ghost first: { code ≡ slice_index bytes.now 0 },
     ghost between: { parameters.now ≡ parameters_of bytes.now },
 }

@@ -1,5 +1,5 @@
 -- What a field meets, call by call, and what it may make of it. Assumes nothing.
-use Rattle.std.specs.Prelude.{◌≡◌, ℕ, true, false, List, [], ◌∷◌, Err}
+use Rattle.std.specs.Prelude.{◌≡◌, ℕ, List, [], ◌∷◌, Err, IsTrue, IsFalse}
 use Rattle.protocol.specs.declared.refusal.Refusal.{Refusal}
 use Rattle.protocol.specs.Refusals.{number_of}
 use Rattle.field.specs.declared.field.Field.{Ghosts as Kind}
@@ -47,9 +47,9 @@ pub record AfterRefusal {F : Type 0} (kind : Kind F) (frame : List ℕ) (row : �
 
 -- What a field may make of a step: the field before, the answer, and the field after.
 abbrev pub Met : {F : Type 0} → Kind F → Step → F → Account → F → Type 0
-Met kind (send frame row room) before (refused e) after = (is_short room ≡ true) × AfterRefusal kind frame row e before after
-Met kind (send frame row room) before (heard h) after = (is_short room ≡ false) × AfterSend kind frame row h before after
+Met kind (send frame row room) before (refused e) after = IsTrue (is_short room) × AfterRefusal kind frame row e before after
+Met kind (send frame row room) before (heard h) after = IsFalse (is_short room) × AfterSend kind frame row h before after
 Met kind (gap microseconds) before passed after = AfterGap kind microseconds before after
-Met kind (sweep set) before (refused e) after = (is_recorded set.coins ≡ false) × (number_of e ≡ 10) × (after ≡ before)
-Met kind (sweep set) before (swept o) after = (is_recorded set.coins ≡ true) × Swept kind set before after o
+Met kind (sweep set) before (refused e) after = IsFalse (is_recorded set.coins) × (number_of e ≡ 10) × (after ≡ before)
+Met kind (sweep set) before (swept o) after = IsTrue (is_recorded set.coins) × Swept kind set before after o
 Met kind step before account after = ⊥

@@ -1,5 +1,5 @@
 -- Two fields as one: the places of the left first. Assumes nothing.
-use Rattle.std.specs.Prelude.{◌≡◌, ℕ, ◌+◌, Bool, cond, List, ◌++◌, length, drop, MatchBool, nat_le}
+use Rattle.std.specs.Prelude.{◌≡◌, ℕ, ◌+◌, Bool, if◌then◌else◌, List, ◌++◌, length, drop, MatchBool, nat_le}
 use Rattle.frame.specs.Openings.{Opening}
 use Rattle.record.specs.declared.Tag.{Tag}
 use Rattle.field.specs.declared.hearing.Hearing.{Hearing}
@@ -23,7 +23,7 @@ fits left right = nat_le (length left + length right) 64
 
 -- The tags of a pair. One above 64 places is never made; it would mean its left alone.
 abbrev pub paired : List Tag → List Tag → List Tag
-paired left right = cond (fits left right) (left ++ right) left
+paired left right = if fits left right then left ++ right else left
 
 -- What the sides of a pair do with a frame: it is sent to each, with the coins behind the left's places to the right, and
 -- what is heard of both is heard at once.

@@ -1,5 +1,5 @@
 -- A field whose lone replies are spoiled now and then. Assumes nothing.
-use Rattle.std.specs.Prelude.{◌≡◌, ℕ, ◌+◌, ◌%◌, ◌<◌, cond, List, ◌==◌}
+use Rattle.std.specs.Prelude.{◌≡◌, ℕ, ◌+◌, ◌%◌, ◌<◌, if◌then◌else◌, List, ◌==◌}
 use Rattle.field.specs.declared.hearing.Hearing.{Hearing}
 use Rattle.field.specs.declared.hearing.Hearing.TheVariants.{Silence, Lone, Clash}
 use Rattle.field.specs.declared.field.Field.{Ghosts as Kind}
@@ -25,7 +25,7 @@ lones Clash = 0
 -- What is heard where each k-th lone reply is spoiled, and a lone one is the n-th: a clash if k divides n.
 abbrev pub spoiled : ℕ → ℕ → Hearing → Hearing
 spoiled k n Silence = Silence
-spoiled k n Lone = cond (n % k == 0) Clash Lone
+spoiled k n Lone = if n % k == 0 then Clash else Lone
 spoiled k n Clash = Clash
 
 -- What a spoiler does with a frame: it is sent below, and what is heard there is spoiled. It keeps how many lone replies

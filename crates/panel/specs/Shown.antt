@@ -1,9 +1,12 @@
 -- What the panel is shown of a frame. Assumes nothing.
-use Rattle.std.specs.Prelude.{◌≡◌, ℕ, ◌+◌, ◌<◌, cond, List, [], ◌∷◌, ◌++◌, length, take, drop, Some, None, Option, nat_lt, slice_index}
+use Rattle.std.specs.Prelude.{◌≡◌, ℕ, ◌+◌, ◌<◌, ◌∷◌}
+use Rattle.std.specs.Prelude.{List, [], length, take, drop, Some, None, Option, slice_index}
 use Rattle.std.specs.List.{flat_map, AllByRecursion}
 use Rattle.protocol.specs.declared.command.Parameter.{Parameter}
 use Rattle.protocol.specs.declared.command.Parameter.TheVariants.{Serial, Address, Mask, Word, Data, Length, Ignored}
 use Rattle.frame.specs.declared.request.Span.{Span}
+use Rattle.frame.specs.Makings as makings
+use Rattle.frame.specs.Makings.{Making, unmade, made, writing}
 use Rattle.frame.specs.Openings.{Opening, refused, opened, opening, parts_in}
 use Rattle.frame.specs.Parts.{Part, span_of, bytes_of}
 
@@ -22,15 +25,24 @@ shown_of code parts =
     code ∷ flat_map (λ p. offset_in (span_of p parts) ∷ length_in (span_of p parts) ∷ [])
     (Serial ∷ Address ∷ Mask ∷ Word ∷ Data ∷ Length ∷ Ignored ∷ [])
 
--- 0, or the number of a refusal: one of opening's, or 5 for want of room.
-abbrev pub answering : Opening → ℕ → ℕ
-answering (refused n) room = n
-answering (opened code c parts) room = cond (nat_lt room 15) 5 0
+-- What is shown of what opening gave, in bytes with some room: its row, or a refusal, which is one of opening's or that
+-- of too little room.
+abbrev pub showing : Opening → ℕ → Making
+showing (refused n) room = unmade n
+showing (opened code c parts) room = writing (shown_of code parts) room
 
--- What is shown stands at the front, and the bytes behind it are as they were. A refusal changes nothing.
+-- A refusal by its number, and 0 for none.
+abbrev pub number_in : Making → ℕ
+number_in (unmade n) = n
+number_in (made row) = 0
+
+abbrev pub answering : Opening → ℕ → ℕ
+answering o room = number_in (showing o room)
+
+-- What is shown stands at the front, and the bytes behind it are as they were, as where a frame is made. A refusal
+-- changes nothing.
 abbrev pub leaving : Opening → List ℕ → List ℕ
-leaving (refused n) before = before
-leaving (opened code c parts) before = cond (nat_lt (length before) 15) before (shown_of code parts ++ drop 15 before)
+leaving o before = makings.leaving (showing o (length before)) before
 
 -- Offsets and lengths are bytes.
 abbrev pub Small : List Part → Type 0

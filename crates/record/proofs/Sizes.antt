@@ -4,7 +4,6 @@ use Rattle.std.proofs.lemmas.List.{length-set}
 use Rattle.record.specs.declared.Tag.{Tag}
 use Rattle.record.specs.Gaps.{gapped, interrupted}
 use Rattle.record.specs.Masks.{selects, stored}
-use Rattle.record.specs.Records.{flagging}
 
 length_either : (b : Bool) (x y : List ℕ) (n : ℕ) → length x ≡ n → length y ≡ n → length (cond b x y) ≡ n
 length_either true x y n p q = p
@@ -21,7 +20,7 @@ length-stored a mask bytes memory (suc n) =
 pub length-gapped : (microseconds : ℕ) (t : Tag) → length (gapped microseconds t).memory ≡ length t.memory
 length-gapped microseconds t = go (ltb microseconds 250) (ltb microseconds 4000000)
   where
-    go : (short medium : Bool) → length (cond short t (cond medium (interrupted t) (flagging false (interrupted t)))).memory ≡ length t.memory
+    go : (short medium : Bool) → length (cond short t (cond medium (interrupted t) (record (interrupted t) { identified = false }))).memory ≡ length t.memory
     go true medium = refl
     go false true = refl
     go false false = refl

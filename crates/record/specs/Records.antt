@@ -1,4 +1,4 @@
--- The record of a tag: what its parts say, and the record with one part changed. Assumes nothing.
+-- The record of a tag, and what its parts say. Assumes nothing.
 use Rattle.std.specs.Prelude.{ℕ, Bool, true, false, List, ◌∷◌, map, take, replicate, None, Option, nat_lt, slice_index, slice_index_or}
 use Rattle.std.specs.List.{range_with_len}
 use Rattle.record.specs.declared.State.{State}
@@ -49,89 +49,4 @@ new_tag memory =
       counter = 0;
       mark = Clear;
       permission = None;
-    }
-
--- The record with one part changed.
-abbrev pub in_state : State → Tag → Tag
-in_state s t =
-    record {
-      memory = t.memory;
-      locks = t.locks;
-      state = s;
-      identified = t.identified;
-      counter = t.counter;
-      mark = t.mark;
-      permission = t.permission;
-    }
-
-abbrev pub flagging : Bool → Tag → Tag
-flagging f t =
-    record {
-      memory = t.memory;
-      locks = t.locks;
-      state = t.state;
-      identified = f;
-      counter = t.counter;
-      mark = t.mark;
-      permission = t.permission;
-    }
-
-abbrev pub counting_to : ℕ → Tag → Tag
-counting_to n t =
-    record {
-      memory = t.memory;
-      locks = t.locks;
-      state = t.state;
-      identified = t.identified;
-      counter = n;
-      mark = t.mark;
-      permission = t.permission;
-    }
-
-abbrev pub marking : WriteMark → Tag → Tag
-marking m t =
-    record {
-      memory = t.memory;
-      locks = t.locks;
-      state = t.state;
-      identified = t.identified;
-      counter = t.counter;
-      mark = m;
-      permission = t.permission;
-    }
-
-abbrev pub permitting : Option ℕ → Tag → Tag
-permitting p t =
-    record {
-      memory = t.memory;
-      locks = t.locks;
-      state = t.state;
-      identified = t.identified;
-      counter = t.counter;
-      mark = t.mark;
-      permission = p;
-    }
-
-abbrev pub remembering : List ℕ → Tag → Tag
-remembering bytes t =
-    record {
-      memory = bytes;
-      locks = t.locks;
-      state = t.state;
-      identified = t.identified;
-      counter = t.counter;
-      mark = t.mark;
-      permission = t.permission;
-    }
-
-abbrev pub locking : List Bool → Tag → Tag
-locking bits t =
-    record {
-      memory = t.memory;
-      locks = bits;
-      state = t.state;
-      identified = t.identified;
-      counter = t.counter;
-      mark = t.mark;
-      permission = t.permission;
     }

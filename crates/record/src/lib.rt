@@ -1,7 +1,7 @@
 // What a tag of the chip SL3ICS31 holds, and what it forgets in a gap.
 #![tactic(auto)]
 
-ghost use Rattle.std.specs.Prelude.{◌≡◌, ◌-◌, Decides, slice_index_or};
+ghost use Rattle.std.specs.Prelude.{◌≡◌, ◌-◌, ◌↔◌, IsTrue, slice_index_or};
 ghost use Rattle.std.specs.Cmp.{partial_equiv_from_equiv, and_equiv, on_equiv, nat_eq_equiv, bool_eq_equiv};
 ghost use Rattle.std.specs.Cmp.Lexicographic.{lists_equiv, options_equiv};
 ghost use Rattle.std.specs.Str.{bytes_eq};
@@ -162,7 +162,7 @@ impl PartialEq for Tag {
     #[tactic(auto, using(crate::proofs::Listed::likenesses))]
     fn eq(&self, other: &Tag) -> bool
         ensures value { result ≡ alike self.now other.now }
-        ensures alike { Decides result (self.now ≡ other.now) }
+        ensures alike { IsTrue result ↔ (self.now ≡ other.now) }
         ensures worked { Likenesses }
     {
         self.memory == other.memory

@@ -3,7 +3,6 @@
 ghost use Rattle.std.specs.Prelude.{◌≡◌, ◌+◌, slice_index, slice_set};
 ghost use Rattle.record.specs.Listings.{Selections, Comparisons, Storings};
 ghost use Rattle.record.specs.Masks.{selects, agrees_at, matches, stored_at, stored};
-ghost use Rattle.record.specs.Records.{remembering};
 
 use crate::{SIZE, Tag, element};
 
@@ -26,7 +25,7 @@ impl Tag {
     // Stores the selected ones of four bytes from an address on.
     #[tactic(auto, using(crate::proofs::Listed::storings))]
     pub fn store(&mut self, address: u8, mask: u8, bytes: &[u8])
-        ensures stored { self.new ≡ remembering (stored address mask bytes.now self.old.memory 4) self.old }
+        ensures stored { self.new ≡ record self.old { memory = stored address mask bytes.now self.old.memory 4 } }
         ensures worked { Storings }
     {
         let given = Masked {
@@ -42,7 +41,7 @@ impl Tag {
 
     // Puts a byte at an address, if there is such an address.
     fn put(&mut self, address: usize, byte: u8)
-        ensures { self.new ≡ remembering (slice_set self.old.memory address byte) self.old }
+        ensures { self.new ≡ record self.old { memory = slice_set self.old.memory address byte } }
     {
         if address < SIZE {
             self.memory[address] = byte;
@@ -88,7 +87,7 @@ impl Masked<'_> {
     // Stores the byte at a place, if it is selected.
     fn store_at(&self, tag: &mut Tag, place: u8)
         ensures { tag.new
-            ≡ remembering (stored_at self.now.address self.now.mask self.now.bytes.now tag.old.memory place) tag.old }
+            ≡ record tag.old { memory = stored_at self.now.address self.now.mask self.now.bytes.now tag.old.memory place } }
     {
         if self.selects(place) {
             tag.put(self.address_of(place), self.byte(place));

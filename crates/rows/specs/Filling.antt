@@ -1,5 +1,5 @@
 -- Lists that are filled from the front of lent storage. Assumes nothing.
-use Rattle.std.specs.Prelude.{◌≡◌, ℕ, Bool, cond, List, [], ◌∷◌, ◌++◌, length, take, drop, nat_le}
+use Rattle.std.specs.Prelude.{◌≡◌, ℕ, Bool, if◌then◌else◌, List, [], ◌∷◌, ◌++◌, length, take, drop, nat_le}
 use Rattle.std.specs.Borrow.{MutBor}
 use Rattle.rows.specs.declared.list.Rows.{Rows}
 
@@ -21,7 +21,7 @@ is_full list = nat_le (room_of list) (length (rows_of list))
 
 -- The rows once one more was to be listed: it stands last, unless the list is full.
 abbrev pub and_row : {T : Type 0} → Bool → List T → T → List T
-and_row full rows row = cond full rows (rows ++ row ∷ [])
+and_row full rows row = if full then rows else rows ++ row ∷ []
 
 -- A list before and after it was filled or emptied: the storage behind its rows is untouched, and is its lender's all
 -- the time.

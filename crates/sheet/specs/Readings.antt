@@ -1,11 +1,12 @@
 -- Reading a line back: its columns, and its length. Assumes nothing.
-use Rattle.std.specs.Prelude.{◌≡◌, ℕ, zero, suc, ◌+◌, ◌-◌, ◌*◌, ◌^◌, ◌<◌, cond, List, [], ◌∷◌, length, take, drop, fold, ◌==◌}
+use Rattle.std.specs.Prelude.{◌≡◌, ℕ, zero, suc, ◌+◌, ◌-◌, ◌*◌, ◌^◌, ◌<◌, if◌then◌else◌, ◌∷◌, ◌==◌}
+use Rattle.std.specs.Prelude.{List, [], length, take, drop, fold}
 use Rattle.std.specs.List.{AllByRecursion}
 use Rattle.sheet.specs.Sheets.{line}
 
 -- A column reads as the number that its digits spell. Blanks say nothing.
 abbrev pub read_byte : ℕ → ℕ → ℕ
-read_byte so_far byte = cond (byte == 32) so_far (so_far * 10 + (byte - 48))
+read_byte so_far byte = if byte == 32 then so_far else so_far * 10 + (byte - 48)
 
 unfoldable pub read_column : List ℕ → ℕ
 read_column bytes = fold read_byte 0 bytes

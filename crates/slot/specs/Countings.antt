@@ -28,10 +28,10 @@ one_more n = min (n + 1) 65535
 
 -- The counts once one more command is sent.
 abbrev pub sent_one : Counts → Counts
-sent_one c = record { lone = c.lone; silent = c.silent; clash = c.clash; commands = c.commands + 1 }
+sent_one c = record c { commands = c.commands + 1 }
 
 -- And once it has opened a slot.
 abbrev pub counted : Hearing → Counts → Counts
-counted Silence c = record { lone = c.lone; silent = one_more c.silent; clash = c.clash; commands = c.commands + 1 }
-counted Lone c = record { lone = one_more c.lone; silent = c.silent; clash = c.clash; commands = c.commands + 1 }
-counted Clash c = record { lone = c.lone; silent = c.silent; clash = one_more c.clash; commands = c.commands + 1 }
+counted Silence c = record c { silent = one_more c.silent; commands = c.commands + 1 }
+counted Lone c = record c { lone = one_more c.lone; commands = c.commands + 1 }
+counted Clash c = record c { clash = one_more c.clash; commands = c.commands + 1 }

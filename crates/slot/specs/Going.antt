@@ -59,28 +59,40 @@ abbrev pub budget_in : Where → ℕ
 budget_in (at_slot phase stand) = stand.budget
 budget_in (over number counts) = 0
 
--- The answers of the calls.
+-- What calls answer: any slot, a slot that is left, a stop, and a slot that is not split.
+abbrev pub at_open : Slot → Where
+at_open s = at_slot (phase_of s) (stand_of s)
+
+abbrev pub at_left : Left → Where
+at_left (left.Next s) = at_open s
+at_left (left.Whole counts) = over 0 counts
+
+abbrev pub at_stop : Stopped → Where
+at_stop s = over (stop_number s.stop) s.counts
+
+abbrev pub at_unsplit : Unsplit → Where
+at_unsplit (unsplit.Refused d) = at_clash d.given
+at_unsplit (unsplit.Stopped s) = at_stop s
+
 abbrev pub where_opened : Result Slot Stopped → Where
-where_opened (Ok s) = at_slot (phase_of s) (stand_of s)
-where_opened (Err s) = over (stop_number s.stop) s.counts
+where_opened (Ok s) = at_open s
+where_opened (Err s) = at_stop s
 
 abbrev pub where_split : Result Slot Unsplit → Where
-where_split (Ok s) = at_slot (phase_of s) (stand_of s)
-where_split (Err (unsplit.Refused d)) = at_clash d.given
-where_split (Err (unsplit.Stopped s)) = over (stop_number s.stop) s.counts
+where_split (Ok s) = at_open s
+where_split (Err u) = at_unsplit u
 
 abbrev pub where_read : Result SilentSlot Stopped → Where
 where_read (Ok s) = at_silent s
-where_read (Err s) = over (stop_number s.stop) s.counts
+where_read (Err s) = at_stop s
 
 abbrev pub where_left : Result Left Stopped → Where
-where_left (Ok (left.Next s)) = at_slot (phase_of s) (stand_of s)
-where_left (Ok (left.Whole counts)) = over 0 counts
-where_left (Err s) = over (stop_number s.stop) s.counts
+where_left (Ok l) = at_left l
+where_left (Err s) = at_stop s
 
 abbrev pub where_closed : Result Counts Stopped → Where
 where_closed (Ok counts) = over 0 counts
-where_closed (Err s) = over (stop_number s.stop) s.counts
+where_closed (Err s) = at_stop s
 
 -- A moment of a sweep as a slot, the lists and the field have it.
 pub record StandsAt (at : Phase) (stand : Stand) (lists : Lists) (population : List Tag) (p : Play) : Type 0 where
@@ -144,7 +156,7 @@ counts_closed c (Err s) = c
 
 -- READs are commands, and no slots.
 abbrev pub counts_read : Counts → ℕ → Counts
-counts_read c commands = record { lone = c.lone; silent = c.silent; clash = c.clash; commands = commands }
+counts_read c commands = record c { commands = commands }
 
 -- A slot is listed as it opens.
 abbrev pub row_of : Command → Slot → SlotRow

@@ -1,5 +1,5 @@
 -- The reader's rule: how a sweep goes on, command by command, over a list of tags. Assumes nothing.
-use Rattle.std.specs.Prelude.{ℕ, zero, suc, ◌+◌, ◌-◌, ◌%◌, cond, nat_le, nat_eq}
+use Rattle.std.specs.Prelude.{ℕ, zero, suc, ◌+◌, ◌-◌, ◌%◌, if◌then◌else◌, nat_le, nat_eq}
 use Rattle.std.specs.Prelude.{List, [], ◌∷◌, ◌++◌, length, slice_index}
 use Rattle.protocol.specs.declared.command.Command.{Command}
 use Rattle.protocol.specs.declared.command.Command.TheVariants.{Select, Query, Scroll}
@@ -70,10 +70,10 @@ pub data Deed : Type 0 where
 
 -- The budget is looked at before every command, and the room for slots then before one that opens a slot.
 abbrev pub commanding : Setting → Play → Deed → Deed
-commanding set p deed = cond (nat_le set.budget p.commands) (stops 8) deed
+commanding set p deed = if nat_le set.budget p.commands then stops 8 else deed
 
 abbrev pub opening_slot : Setting → Play → Deed → Deed
-opening_slot set p deed = commanding set p (cond (nat_le set.slot_room (length p.slots)) (stops 9) deed)
+opening_slot set p deed = commanding set p (if nat_le set.slot_room (length p.slots) then stops 9 else deed)
 
 -- The row of coins at a place. The rows are drawn in turn, and behind the last comes the first.
 abbrev pub coins_at : List ℕ → ℕ → ℕ
@@ -85,13 +85,13 @@ place_behind coins place = place % length coins + 1
 abbrev pub deed_in : Setting → Play → Phase → Deed
 deed_in set p fresh = opening_slot set p (opens Select select 0 0 0)
 deed_in set p in_silence =
-    cond (nat_eq p.waiting 0) (commanding set p closes)
-    (opening_slot set p (opens Scroll scroll 0 (p.waiting - 1) p.next))
-deed_in set p (in_lone serial) = cond (nat_le set.serial_room (length p.serials)) (stops 9) (lists serial)
+    if nat_eq p.waiting 0 then commanding set p closes
+    else opening_slot set p (opens Scroll scroll 0 (p.waiting - 1) p.next)
+deed_in set p (in_lone serial) = if nat_le set.serial_room (length p.serials) then stops 9 else lists serial
 deed_in set p in_clash =
-    cond (nat_eq p.waiting 255) (stops 7)
-    (opening_slot set p
-    (opens Query query (coins_at set.coins p.next) (p.waiting + 1) (place_behind set.coins p.next)))
+    if nat_eq p.waiting 255 then stops 7
+    else opening_slot set p
+    (opens Query query (coins_at set.coins p.next) (p.waiting + 1) (place_behind set.coins p.next))
 deed_in set p (in_reading serial) = commanding set p (reads serial)
 deed_in set p (ended n) = rests
 
@@ -121,61 +121,25 @@ read_by Clash serial = in_reading serial
 
 -- The sweep once a deed is done and something is heard.
 abbrev pub done : Deed → Hearing → Play → Play
-done (stops n) h p =
-    record {
-      phase = ended n;
-      waiting = p.waiting;
-      next = p.next;
-      commands = p.commands;
-      reads = p.reads;
-      slots = p.slots;
-      serials = p.serials;
-      tags = p.tags;
-    }
+done (stops n) h p = record p { phase = ended n }
 done (opens c frame row g next) h p =
-    record {
+    record p {
       phase = opened_by h (on_air (opening frame) row p.tags);
       waiting = g;
       next = next;
       commands = p.commands + 1;
-      reads = p.reads;
       slots = p.slots ++ record { command = c; hearing = h; waiting = g } ∷ [];
-      serials = p.serials;
       tags = stepped_all (opening frame) row p.tags;
     }
-done (lists serial) h p =
-    record {
-      phase = in_reading serial;
-      waiting = p.waiting;
-      next = p.next;
-      commands = p.commands;
-      reads = p.reads;
-      slots = p.slots;
-      serials = p.serials ++ serial ∷ [];
-      tags = p.tags;
-    }
+done (lists serial) h p = record p { phase = in_reading serial; serials = p.serials ++ serial ∷ [] }
 done (reads serial) h p =
-    record {
+    record p {
       phase = read_by h serial;
-      waiting = p.waiting;
-      next = p.next;
       commands = p.commands + 1;
       reads = p.reads + 1;
-      slots = p.slots;
-      serials = p.serials;
       tags = stepped_all (opening (read serial)) 0 p.tags;
     }
-done closes h p =
-    record {
-      phase = ended 0;
-      waiting = p.waiting;
-      next = p.next;
-      commands = p.commands + 1;
-      reads = p.reads;
-      slots = p.slots;
-      serials = p.serials;
-      tags = stepped_all (opening again) 0 p.tags;
-    }
+done closes h p = record p { phase = ended 0; commands = p.commands + 1; tags = stepped_all (opening again) 0 p.tags }
 done rests h p = p
 
 -- One deed more.

@@ -1,5 +1,5 @@
 -- A sweep over a field, deed by deed. Assumes nothing.
-use Rattle.std.specs.Prelude.{◌≡◌, true, List, [], ◌∷◌, length}
+use Rattle.std.specs.Prelude.{◌≡◌, List, [], ◌∷◌, length, IsTrue}
 use Rattle.field.specs.declared.field.Field.{Ghosts as Kind}
 use Rattle.field.specs.declared.hearing.Hearing.{Hearing}
 use Rattle.field.specs.Promises.{AfterSend}
@@ -30,5 +30,5 @@ pub record Reaches {F : Type 0} (kind : Kind F) (set : Setting) (before after : 
   pub hearings : List Hearing
   pub heard : Heard set hearings p
   pub there : q ≡ played set hearings p
-  pub plain : kind.faithful before ≡ true → q ≡ replayed set (length hearings) p
+  pub plain : IsTrue (kind.faithful before) → q ≡ replayed set (length hearings) p
   pub field : GoesAlong kind set hearings p before after

@@ -1,5 +1,6 @@
 -- What slots, answers and stops say, by numbers and in the words of the rule. Assumes nothing.
-use Rattle.std.specs.Prelude.{◌≡◌, ℕ, cond, not, ◌||◌, List, [], ◌∷◌, ◌++◌, Result, is_ok, IfOk, IfErr, OnErr, nat_le}
+use Rattle.std.specs.Prelude.{◌≡◌, ℕ, if◌then◌else◌, not, ◌||◌, ◌∷◌, ◌++◌}
+use Rattle.std.specs.Prelude.{List, [], Result, is_ok, IfOk, IfErr, OnErr, nat_le}
 use Rattle.protocol.specs.declared.command.Command.{Command}
 use Rattle.frame.specs.Openings.{opening}
 use Rattle.rows.specs.Filling.{rows_of, is_full, Behind}
@@ -60,6 +61,6 @@ pub record MayOpen {F : Type 0} (kind : Kind F) (command : Command) (frame : Lis
     (before after : Lists) (field field_after : F) (answer : Result Slot Stopped) : Type 0 where
   pub opens : is_ok answer ≡ not (nat_le from.budget from.counts.commands || is_full before.slots)
   pub opened : IfOk answer (λ s. Opened kind command frame row from before after field field_after s)
-  pub stop : IfErr answer (λ s. stop_number s.stop ≡ cond (nat_le from.budget from.counts.commands) 8 9)
+  pub stop : IfErr answer (λ s. stop_number s.stop ≡ (if nat_le from.budget from.counts.commands then 8 else 9))
   pub counts : IfErr answer (λ s. s.counts ≡ from.counts)
   pub same : OnErr answer ((field_after ≡ field) × (after ≡ before))

@@ -1,5 +1,5 @@
 // Sending a command that opens a slot.
-ghost use Rattle.std.specs.Prelude.{◌≡◌, ℕ, ◌+◌, ◌%◌, ◌<◌, false, [], ◌∷◌, ◌++◌, length, nat_le};
+ghost use Rattle.std.specs.Prelude.{◌≡◌, ℕ, ◌+◌, ◌%◌, ◌<◌, [], ◌∷◌, ◌++◌, length, nat_le, IsFalse};
 ghost use Rattle.frame.specs.Openings.{opening};
 ghost use Rattle.field.specs.Promises.{AfterSend};
 ghost use Rattle.field.specs.Sends.{on_air};
@@ -22,7 +22,7 @@ use protocol::command::Command;
 impl Stand {
     pub(crate) fn is_spent(self) -> bool
         ensures test { result ≡ nat_le self.budget self.counts.commands }
-        ensures room { result ≡ false → self.counts.commands < 65535 }
+        ensures room { IsFalse result → self.counts.commands < 65535 }
     {
         self.counts.commands >= self.budget
     }
@@ -139,7 +139,7 @@ fn hear_slot<F: Field>(
 ) -> Slot
     requires fits { length parameters.now + 3 ≡ length_of command }
     requires budget { stand.counts.commands < 65535 }
-    requires room { is_full lists.old.slots ≡ false }
+    requires room { IsFalse (is_full lists.old.slots) }
     ensures sent { AfterSend F.Field (frame_of command parameters.now) row
         (heard_in result) field.old field.new }
     ensures phase { phase_of result ≡ opened_by

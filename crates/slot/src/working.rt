@@ -1,6 +1,6 @@
 // Working a sweep slot by slot.
-ghost use Rattle.std.specs.Prelude.{◌≡◌, ℕ, ◌<◌, if◌then◌else◌, false, List, [], length, Some, None};
-ghost use Rattle.std.specs.Prelude.{IfOk, IfErr, OnOk};
+ghost use Rattle.std.specs.Prelude.{◌≡◌, ℕ, ◌<◌, if◌then◌else◌, List, [], length, Some, None};
+ghost use Rattle.std.specs.Prelude.{IsFalse, IfOk, IfErr, OnOk};
 ghost use Rattle.protocol.specs.declared.command.Command.TheVariants as command;
 ghost use Rattle.rows.specs.Filling.{rows_of, is_full, and_row};
 ghost use Rattle.slot.specs.Going.{setting, at_slot, at_silent, at_lone, at_clash, serial_heard, budget_in, counts_in};
@@ -108,7 +108,7 @@ impl LoneSlot {
         ensures within { OnOk result (IsWithin (budget_in (at_lone self)) (where_read result)) }
         ensures sent { IfOk result (λ s. (counts_in (at_lone self)).commands < (counts_in (at_silent s)).commands) }
         ensures stop { IfErr result (λ s. stop_number s.stop ≡ (if is_full lists.old.serials then 9 else 8)) }
-        ensures unread { (coins : List ℕ) → IfErr result (λ s. is_full lists.old.serials ≡ false → Leads F.Field coins
+        ensures unread { (coins : List ℕ) → IfErr result (λ s. IsFalse (is_full lists.old.serials) → Leads F.Field coins
             (at_lone self) (at_unread self s.counts) field.old field.new lists.old lists.new) }
         ensures slots { lists.new.slots ≡ lists.old.slots }
         ensures serials { rows_of lists.new.serials ≡

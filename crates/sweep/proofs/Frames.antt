@@ -1,6 +1,5 @@
 -- What a sweep's frames ask of tags, and which serial number stands in a reply. Assumes nothing.
-use Rattle.std.proofs.Common.{◌≡◌, ℕ, ◌+◌, ◌-◌, true, List, [], ◌∷◌, ◌++◌, length, get_or, take, drop, replicate, Some, sym, refl, ap, ◌∙◌, ap₂, arith}
-use Rattle.std.proofs.lemmas.Slice.Eq.{bytes_eq-Decides}
+use Rattle.std.proofs.Common.{◌≡◌, ℕ, ◌+◌, ◌-◌, List, [], ◌∷◌, ◌++◌, length, get_or, take, drop, replicate, Some, sym, refl, ap, ◌∙◌, ap₂, arith}
 use Rattle.std.proofs.lemmas.List.{take_at, drop_at, length-append, append_assoc}
 use Rattle.crc.specs.Check.{moved_up, bit_taken, bits, byte_taken, sent, check_value, sealed}
 use Rattle.protocol.specs.declared.command.Command.TheVariants.{Read}
@@ -9,6 +8,7 @@ use Rattle.frame.specs.Openings.{opened, opening, is_sealed, front, parameters_o
 use Rattle.frame.specs.Parts.{placed}
 use Rattle.frame.proofs.Opens.{opens}
 use Rattle.frame.proofs.Seals.{front-sealed}
+use Rattle.frame.proofs.Trips.{sealed-length, is-sealed, first_byte}
 use Rattle.tag.specs.Orders as orders
 use Rattle.tag.specs.Orders.{order}
 use Rattle.field.specs.declared.hearing.Hearing.TheVariants.{Lone}
@@ -31,18 +31,6 @@ order-scroll = refl
 pub order-again : order (opening again) ≡ orders.again
 unfolding again opening is_sealed front parameters_of named moved_up bit_taken bits byte_taken sealed
 order-again = refl
-
-sealed-length : (message : List ℕ) → length (sealed message) ≡ length message + 2
-unfolding sealed
-sealed-length message = length-append message (sent (check_value message))
-
-is-sealed : (message : List ℕ) → is_sealed (sealed message) ≡ true
-unfolding is_sealed
-is-sealed message = (bytes_eq-Decides (sealed message) (sealed (front (sealed message)))).1 (ap sealed (sym (front-sealed message)))
-
-first_byte : (code : ℕ) (parameters : List ℕ) → get_or (sealed (code ∷ parameters)) 0 0 ≡ code
-unfolding sealed
-first_byte code parameters = refl
 
 named_read : named 0x0c ≡ Some Read
 unfolding named

@@ -10,7 +10,7 @@ use Rattle.frame.specs.Openings.{Opening, refused, opened, opening, by_name, is_
 use Rattle.frame.specs.Parts.{Part, bytes_of, placed}
 use Rattle.protocol.specs.declared.command.Parameter.TheVariants.{Serial, Address}
 use Rattle.record.specs.declared.Tag.{Tag}
-use Rattle.record.specs.Records.{bytes_from, permitting}
+use Rattle.record.specs.Records.{bytes_from}
 use Rattle.reply.specs.Replies.{sounding}
 use Rattle.tag.specs.Orders.{damaged, unknown, byte_of}
 use Rattle.tag.specs.Steps.{met, moved, obeyed, is_meant, answered, stepped, replied}
@@ -40,7 +40,7 @@ refused-is_steady n a b c t = no_reply (ltb n 3) a b c t
 read-is_steady : (code : ℕ) (parts : List Part) → IsSteady (opened code Read parts)
 read-is_steady code parts a b c t =
     let left : (stepped (opened code Read parts) b t).memory ≡ t.memory =
-    cond_both (is_meant t (bytes_of Serial parts)) (permitting (Some (byte_of Address parts)) (moved (met t))) (met t) (λ (u : Tag). u.memory ≡ t.memory)
+    cond_both (is_meant t (bytes_of Serial parts)) (record (moved (met t)) { permission = Some (byte_of Address parts) }) (met t) (λ (u : Tag). u.memory ≡ t.memory)
     (λ e. refl) (λ e. refl) in
     ap (λ (m : List ℕ). sounding (cond (bytes_eq (take 8 m) (bytes_of Serial parts)) (Some (bytes_from m (byte_of Address parts) 8)) None)) left
 

@@ -9,7 +9,7 @@ use Rattle.record.specs.declared.WriteMark.{WriteMark}
 use Rattle.record.specs.declared.WriteMark.TheVariants.{Clear, Fading, Fresh}
 use Rattle.record.specs.declared.Tag.{Tag}
 use Rattle.record.specs.Masks.{matches}
-use Rattle.record.specs.Records.{serial_of, fallen, counting_to, marking, permitting}
+use Rattle.record.specs.Records.{serial_of, fallen}
 use Rattle.tag.specs.Orders as orders
 use Rattle.tag.specs.Orders.{Order, order}
 use Rattle.tag.specs.Steps.{if_singulated, is_chosen, joined, risen, drawn, moved, met, is_meant, obeyed, answered, stepped}
@@ -30,7 +30,7 @@ is_left_by serial t = is_active t && not (is_meant t serial)
 
 -- What becomes of a tag by the end of a sweep.
 abbrev pub outcome : Tag → Tag
-outcome t = permitting None (marking Clear (cond (is_active t) (moved (counting_to 0 t)) t))
+outcome t = record (cond (is_active t) (moved (record t { counter = 0 })) t) { mark = Clear; permission = None }
 
 -- The serial number of a tag whose turn it is.
 abbrev pub voiced : Tag → Option (List ℕ)
@@ -113,7 +113,7 @@ module _ (m : List ℕ) (l : List Bool) (i : Bool) (c : ℕ) (k : WriteMark) (p 
   selected s b = cond (is_chosen s b) (joined (met (of_state s))) (met (of_state s))
 
   selected_outcome : (s : State) (b : Bool)
-      → outcome (selected s b) ≡ permitting None (marking Clear (cond (is_chosen s b) (moved (counting_to 0 (of_state s))) (of_state s)))
+      → outcome (selected s b) ≡ record (cond (is_chosen s b) (moved (record (of_state s) { counter = 0 })) (of_state s)) { mark = Clear; permission = None }
   selected_outcome Ready true = refl
   selected_outcome Ready false = refl
   selected_outcome Singulation b = refl
@@ -139,7 +139,7 @@ module _ (m : List ℕ) (l : List Bool) (i : Bool) (c : ℕ) (k : WriteMark) (p 
 
   -- QUERY and SCROLL, by what they make of the counter.
   abbrev counted : State → ℕ → Tag
-  counted s n = if_singulated s (counting_to n (met (of_state s))) (met (of_state s))
+  counted s n = if_singulated s (record (met (of_state s)) { counter = n }) (met (of_state s))
 
   counted_serial : (s : State) (n : ℕ) → serial_of (counted s n) ≡ serial_of (of_state s)
   counted_serial Ready n = refl
@@ -214,7 +214,7 @@ scroll_opens coin t = counted_voiced t.memory t.locks t.identified t.counter t.m
 -- READ, by whether the tag is meant.
 module _ (serial : List ℕ) (w : ℕ) (t : Tag) (h : Readable serial w t) where
   abbrev read_when : Bool → Tag
-  read_when b = cond b (permitting (Some 0x00) (moved (met t))) (met t)
+  read_when b = cond b (record (moved (met t)) { permission = Some 0x00 }) (met t)
 
   read_outcome : (b : Bool) → is_meant t serial ≡ b → outcome (read_when b) ≡ outcome t
   read_outcome true e = h.settled e
@@ -249,7 +249,7 @@ module _ (serial : List ℕ) (w : ℕ) (t : Tag) (h : Readable serial w t) where
 read_takes : (serial : List ℕ) (w : ℕ) → Takes (orders.read serial 0x00 8) (Readable serial w) (Unheard serial w) outcome (is_left_by serial)
 read_takes serial w =
     record {
-      serial = λ coin t. either (λ (u : Tag). serial_of u ≡ serial_of t) (is_meant t serial) (permitting (Some 0x00) (moved (met t))) (met t) refl refl;
+      serial = λ coin t. either (λ (u : Tag). serial_of u ≡ serial_of t) (is_meant t serial) (record (moved (met t)) { permission = Some 0x00 }) (met t) refl refl;
       outcomes = λ coin t h. read_outcome serial w t h (is_meant t serial) refl;
       active = λ coin t h. read_active serial w t h (is_meant t serial) refl;
       after = λ coin t h. read_unheard serial w t h (is_meant t serial) refl;
@@ -259,8 +259,8 @@ read_takes serial w =
 settled : (t : Tag) → has_turn t ≡ true → outcome (moved t) ≡ outcome t
 settled t h =
     let parts = and_parts (is_active t) (eqb t.counter 0) h in
-    ap (λ (n : ℕ). permitting None (marking Clear (moved (counting_to n t)))) (eqb-true t.counter 0 parts.1)
-    ∙ ap (λ (b : Bool). permitting None (marking Clear (cond b (moved (counting_to 0 t)) t))) (sym parts.0)
+    ap (λ (n : ℕ). record (moved (record t { counter = n })) { mark = Clear; permission = None }) (eqb-true t.counter 0 parts.1)
+    ∙ ap (λ (b : Bool). record (cond b (moved (record t { counter = 0 })) t) { mark = Clear; permission = None }) (sym parts.0)
 
 pub readable : (serial : List ℕ) (w : ℕ) (t : Tag) → Fit w t → has_turn t ≡ is_meant t serial → Readable serial w t
 readable serial w t fit h =
@@ -271,10 +271,10 @@ readable serial w t fit h =
     }
 
 pub serial_of_outcome : (t : Tag) → serial_of (outcome t) ≡ serial_of t
-serial_of_outcome t = either (λ (u : Tag). serial_of u ≡ serial_of t) (is_active t) (moved (counting_to 0 t)) t refl refl
+serial_of_outcome t = either (λ (u : Tag). serial_of u ≡ serial_of t) (is_active t) (moved (record t { counter = 0 })) t refl refl
 
 pub serial_of_fate : (t : Tag) → serial_of (fate_of t) ≡ serial_of t
-serial_of_fate t = either (λ (u : Tag). serial_of u ≡ serial_of t) (is_due t) (moved (counting_to 0 t)) t refl refl
+serial_of_fate t = either (λ (u : Tag). serial_of u ≡ serial_of t) (is_due t) (moved (record t { counter = 0 })) t refl refl
 
 -- What a sweep's commands do to each tag.
 pub select_each : Takes (order (opening select)) (λ t. Unit {0}) (Fit 0) fate_of is_due
@@ -294,8 +294,8 @@ read_each serial w h =
 pub again_each : (coin : Bool) (t : Tag) → Fit 0 t → has_turn t ≡ false → stepped (opening again) coin t ≡ outcome t
 again_each coin t fit h =
     ap (λ (o : Order). obeyed o coin t.permission (met t)) order-again
-    ∙ ap (λ (k : WriteMark). permitting None (marking k t)) fit.mark
-    ∙ ap (λ (b : Bool). permitting None (marking Clear (cond b (moved (counting_to 0 t)) t))) (sym (not_active t fit h))
+    ∙ ap (λ (k : WriteMark). record t { mark = k; permission = None }) fit.mark
+    ∙ ap (λ (b : Bool). record (cond b (moved (record t { counter = 0 })) t) { mark = Clear; permission = None }) (sym (not_active t fit h))
 
 -- Who replies to those that open a slot.
 pub select_heard : Opens (order (opening select))

@@ -1,10 +1,10 @@
 -- What becomes of tags in a whole sweep, and which of them it reports: by no coin, and by no hearing. Assumes nothing.
-use Rattle.std.specs.Prelude.{◌≡◌, ℕ, ◌≤◌, Bool, cond, List, map, None, count_by, filter}
+use Rattle.std.specs.Prelude.{◌≡◌, ℕ, ◌≤◌, Bool, if◌then◌else◌, List, map, None, count_by, filter}
 use Rattle.std.specs.Str.{bytes_eq}
 use Rattle.record.specs.declared.WriteMark.TheVariants.{Clear}
 use Rattle.record.specs.declared.Tag.{Tag}
 use Rattle.record.specs.Masks.{matches}
-use Rattle.record.specs.Records.{serial_of, counting_to, marking, permitting}
+use Rattle.record.specs.Records.{serial_of}
 use Rattle.tag.specs.Steps.{is_chosen, moved}
 use Rattle.field.specs.declared.hearing.Hearing.{Hearing}
 use Rattle.field.specs.Sends.{Sized}
@@ -17,7 +17,7 @@ is_due t = is_chosen t.state (matches t.memory 0x00 0xc0 word)
 
 -- A tag once a whole sweep is over. One that was due has been read.
 abbrev pub fate_of : Tag → Tag
-fate_of t = permitting None (marking Clear (cond (is_due t) (moved (counting_to 0 t)) t))
+fate_of t = record (if is_due t then moved (record t { counter = 0 }) else t) { mark = Clear; permission = None }
 
 -- How many times a serial number is listed.
 abbrev pub times : List ℕ → List (List ℕ) → ℕ

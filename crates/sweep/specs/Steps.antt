@@ -4,24 +4,18 @@ use Rattle.field.specs.declared.hearing.Hearing.TheVariants.{Silence, Lone, Clas
 use Rattle.slot.specs.declared.row.SlotRow.{SlotRow}
 use Rattle.slot.specs.declared.counts.Counts.{Counts}
 use Rattle.slot.specs.declared.kinds.Left.{Left}
-use Rattle.slot.specs.declared.kinds.Left.TheVariants as left
 use Rattle.slot.specs.declared.kinds.Unsplit.{Unsplit}
 use Rattle.slot.specs.declared.kinds.Unsplit.TheVariants as unsplit
-use Rattle.slot.specs.Countings.{stop_number}
-use Rattle.slot.specs.Going.{Where, at_slot, at_clash, over}
-use Rattle.slot.specs.Slots.{phase_of, stand_of}
+use Rattle.slot.specs.Going.{Where, at_slot, at_left, at_unsplit, over}
 use Rattle.sweep.specs.Tallies.{heard_as}
 
 abbrev pub where_gone : Result Left Unsplit → Where
-where_gone (Ok (left.Next s)) = at_slot (phase_of s) (stand_of s)
-where_gone (Ok (left.Whole counts)) = over 0 counts
-where_gone (Err (unsplit.Refused d)) = at_clash d.given
-where_gone (Err (unsplit.Stopped s)) = over (stop_number s.stop) s.counts
+where_gone (Ok l) = at_left l
+where_gone (Err u) = at_unsplit u
 
 abbrev pub where_worked : Result Counts Unsplit → Where
 where_worked (Ok counts) = over 0 counts
-where_worked (Err (unsplit.Refused d)) = at_clash d.given
-where_worked (Err (unsplit.Stopped s)) = over (stop_number s.stop) s.counts
+where_worked (Err u) = at_unsplit u
 
 -- Whether an answer is a refusal.
 abbrev pub is_refused : {X : Type 0} → Result X Unsplit → Bool

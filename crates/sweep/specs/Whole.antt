@@ -1,5 +1,5 @@
 -- What the call that sweeps a field says of its outcome. Assumes nothing.
-use Rattle.std.specs.Prelude.{◌≡◌, ℕ, ◌+◌, ◌≤◌, ◌⊎◌, Bool, true, List, map, length}
+use Rattle.std.specs.Prelude.{◌≡◌, ℕ, ◌+◌, ◌≤◌, ◌⊎◌, Bool, List, map, length, IsTrue}
 use Rattle.record.specs.declared.Tag.{Tag}
 use Rattle.rows.specs.Filling.{rows_of}
 use Rattle.field.specs.declared.field.Field.{Ghosts as Kind}
@@ -42,7 +42,7 @@ pub record Swept {F : Type 0} (kind : Kind F) (set : Setting) (before after : F)
   pub heard : Heard set hearings (beginning (kind.tags before))
   pub by_rule : Reported o (kind.tags after) (played set hearings (beginning (kind.tags before)))
   pub field : GoesAlong kind set hearings (beginning (kind.tags before)) before after
-  pub plain : kind.faithful before ≡ true → Reported o (kind.tags after) (replayed set (enough set) (beginning (kind.tags before)))
+  pub plain : IsTrue (kind.faithful before) → Reported o (kind.tags after) (replayed set (enough set) (beginning (kind.tags before)))
   -- in a whole sweep the commands are slots, READs and one
   pub commands : end_number o.report.end ≡ 0
       → o.report.counts.commands ≡ length o.slots + (played set hearings (beginning (kind.tags before))).reads + 1
@@ -52,7 +52,7 @@ pub record Complete (faithful : Bool) (before after : List Tag) (o : Outcome) : 
   -- each clash adds a group, and each lone or silent slot takes one away
   pub slots : o.report.counts.lone + o.report.counts.silent ≡ o.report.counts.clash + 1
   -- where lone replies are heard as lone, the commands are the slots, one READ for each lone one, and one
-  pub commands : faithful ≡ true → o.report.counts.commands ≡ length o.slots + o.report.counts.lone + 1
+  pub commands : IsTrue faithful → o.report.counts.commands ≡ length o.slots + o.report.counts.lone + 1
   -- what is left and reported hangs on no coin and on no hearing, where no serial number is there twice
   pub tags : Distinct before → after ≡ map fate_of before
   pub serials : Distinct before → EachOnce o.serials (due_serials before)

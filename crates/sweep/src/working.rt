@@ -1,8 +1,8 @@
 // Going through a sweep, slot by slot.
-ghost use Rattle.std.specs.Prelude.{◌≡◌, ◌≤◌, true, false, length, OnOk};
+ghost use Rattle.std.specs.Prelude.{◌≡◌, ◌≤◌, length, IsTrue, IsFalse, OnOk};
 ghost use Rattle.rows.specs.Filling.{rows_of};
-ghost use Rattle.slot.specs.Going.{setting, at_slot, Begins, Leads, BothBehind, IsWithin, counts_in, is_recorded};
-ghost use Rattle.slot.specs.Slots.{phase_of, stand_of};
+ghost use Rattle.slot.specs.Going.{setting, at_open, Begins, Leads, BothBehind, IsWithin, counts_in, is_recorded};
+ghost use Rattle.slot.specs.Slots.{stand_of};
 ghost use Rattle.sweep.specs.Steps.{where_gone, where_worked, is_refused, Tallied, HasSent};
 
 use field::field::Field;
@@ -18,12 +18,12 @@ pub(crate) fn work<F: Field>(
     budget: u16,
     lists: &mut Lists<'_>,
 ) -> Result<Counts, Unsplit>
-    requires { is_recorded coins.now ≡ true }
+    requires { IsTrue (is_recorded coins.now) }
     ensures rule { Begins F.Field (setting coins.now budget lists.old) (where_worked result)
         field.old field.new lists.new }
     ensures behind { BothBehind lists.old lists.new }
     ensures tally { Tallied (counts_in (where_worked result)) (rows_of lists.new.slots) }
-    ensures stopped { is_refused result ≡ false }
+    ensures stopped { IsFalse (is_refused result) }
 {
     let mut slot = open(field, budget, lists)?;
     loop {
@@ -41,15 +41,15 @@ fn go_on<F: Field>(
     coins: &[u64],
     lists: &mut Lists<'_>,
 ) -> Result<Left, Unsplit>
-    requires { is_recorded coins.now ≡ true }
-    ensures rule { Leads F.Field coins.now (at_slot (phase_of slot) (stand_of slot)) (where_gone result)
+    requires { IsTrue (is_recorded coins.now) }
+    ensures rule { Leads F.Field coins.now (at_open slot) (where_gone result)
         field.old field.new lists.old lists.new }
     ensures behind { BothBehind lists.old lists.new }
     ensures within { OnOk result (IsWithin (stand_of slot).budget (where_gone result)) }
     ensures sent { OnOk result (HasSent (stand_of slot).counts.commands (where_gone result)) }
     ensures tally { Tallied (stand_of slot).counts (rows_of lists.old.slots) → length (rows_of lists.new.slots) ≤ 65535
         → Tallied (counts_in (where_gone result)) (rows_of lists.new.slots) }
-    ensures stopped { is_refused result ≡ false }
+    ensures stopped { IsFalse (is_refused result) }
 {
     match slot {
         Slot::Silent(silent) => Ok(silent.leave(field, lists)?),

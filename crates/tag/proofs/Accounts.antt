@@ -17,7 +17,7 @@ use Rattle.record.specs.Masks.{selects, stored_at, stored}
 use Rattle.record.proofs.Sizes.{length-stored}
 use Rattle.tag.specs.Memories.{is_reached, stores_at, locks_at, Accounted}
 use Rattle.tag.specs.Orders.{damaged, unknown, byte_of}
-use Rattle.record.specs.Records.{locked_at, is_write_ok, in_state, permitting, marking, remembering, locking}
+use Rattle.record.specs.Records.{locked_at, is_write_ok}
 use Rattle.tag.proofs.Branches.{either, singulated}
 use Rattle.tag.specs.Steps.{met, moved, obeyed, stepped, if_inventoried, is_meant, is_writable, is_lockable}
 
@@ -33,7 +33,7 @@ only_met : (t : Tag) → Same t (met t)
 only_met t = still t (met t) refl refl
 
 not_opened : (coin : Bool) (t : Tag) (b : Bool) → Same t (obeyed (cond b damaged unknown) coin t.permission (met t))
-not_opened coin t true = still t (in_state Ready (met t)) refl refl
+not_opened coin t true = still t (record (met t) { state = Ready }) refl refl
 not_opened coin t false = only_met t
 
 or_nothing : (b : Bool) → b ≡ (b || false)
@@ -113,14 +113,16 @@ wrote : (code : ℕ) (parts : List Part) (t : Tag) → length t.memory ≡ 56 �
     → Accounted (opened code Write parts) t
     (cond meant
     (cond writable
-    (permitting (Some (byte_of Address parts))
-    (marking Fresh (remembering (stored (byte_of Address parts) (byte_of Mask parts) (bytes_of Data parts) t.memory 4) (moved (met t)))))
-    (marking Clear (moved (met t)))) (met t))
+    (record (moved (met t)) {
+      memory = stored (byte_of Address parts) (byte_of Mask parts) (bytes_of Data parts) t.memory 4;
+      mark = Fresh;
+      permission = Some (byte_of Address parts);
+    }) (record (moved (met t)) { mark = Clear })) (met t))
 wrote code parts t lm ll false writable em ew =
     untouched (opened code Write parts) t (met t) (λ i. and_left _ _ (and_left (is_meant t (bytes_of Serial parts)) _ em)) (λ i. refl) (only_met t)
 wrote code parts t lm ll true false em ew =
-    untouched (opened code Write parts) t (marking Clear (moved (met t))) (λ i. and_left _ _ (and_right (is_meant t (bytes_of Serial parts)) _ ew)) (λ i. refl)
-    (still t (marking Clear (moved (met t))) refl refl)
+    untouched (opened code Write parts) t (record (moved (met t)) { mark = Clear }) (λ i. and_left _ _ (and_right (is_meant t (bytes_of Serial parts)) _ ew)) (λ i. refl)
+    (still t (record (moved (met t)) { mark = Clear }) refl refl)
 wrote code parts t lm ll true true em ew =
     let a : ℕ = byte_of Address parts in
     let mask : ℕ = byte_of Mask parts in
@@ -148,7 +150,7 @@ locked_at_lem : (code : ℕ) (parts : List Part) (t : Tag) → length t.locks �
     → t.state ≡ s → is_lockable t.permission (byte_of Address parts) ≡ lockable
     → Accounted (opened code Lock parts) t
     (cond meant
-    (if_inventoried s (cond lockable (marking Fresh (locking (set t.locks (byte_of Address parts) true) (met t))) (marking Clear (met t))) (met t))
+    (if_inventoried s (cond lockable (record (met t) { locks = set t.locks (byte_of Address parts) true; mark = Fresh }) (record (met t) { mark = Clear })) (met t))
     (met t))
 locked_at_lem code parts t ll false lockable s em es ek =
     untouched (opened code Lock parts) t (met t) (λ i. refl) (λ i. and_left _ _ (and_left _ _ (and_left (is_meant t (bytes_of Serial parts)) _ em))) (only_met t)
@@ -159,9 +161,9 @@ locked_at_lem code parts t ll true lockable Singulation em es ek =
     untouched (opened code Lock parts) t (met t) (λ i. refl) (λ i. and_left _ _ (and_left _ _ (and_right (is_meant t (bytes_of Serial parts)) _ (ap (λ (x : State). if_inventoried x true false) es))))
     (only_met t)
 locked_at_lem code parts t ll true false Inventoried em es ek =
-    untouched (opened code Lock parts) t (marking Clear (met t)) (λ i. refl)
+    untouched (opened code Lock parts) t (record (met t) { mark = Clear }) (λ i. refl)
     (λ i. and_left _ _ (and_right (is_meant t (bytes_of Serial parts) && if_inventoried t.state true false) _ ek))
-    (still t (marking Clear (met t)) refl refl)
+    (still t (record (met t) { mark = Clear }) refl refl)
 locked_at_lem code parts t ll true true Inventoried em es ek =
     let a : ℕ = byte_of Address parts in
     let inside = lockable_inside t.permission a ek in

@@ -11,7 +11,7 @@ use Rattle.record.specs.declared.State.TheVariants.{Ready, Singulation, Inventor
 use Rattle.record.specs.declared.WriteMark.{WriteMark}
 use Rattle.record.specs.declared.WriteMark.TheVariants.{Clear, Fading, Fresh}
 use Rattle.record.specs.declared.Tag.{Tag}
-use Rattle.record.specs.Records.{mark_number, fallen, is_write_ok, in_state}
+use Rattle.record.specs.Records.{mark_number, fallen, is_write_ok}
 use Rattle.tag.specs.Flags.{is_dealt_with, Flagged}
 use Rattle.tag.specs.Frames.{is_a, address_in}
 use Rattle.tag.specs.Marks.{is_tried, is_done, Remarked}
@@ -43,8 +43,8 @@ idle t u e f g = record { flag = e; permission = f; mark = g }
 only_met : (t : Tag) → Idle t (met t)
 only_met t = idle t (met t) refl refl refl
 
-only_ready : (t : Tag) → Idle t (in_state Ready (met t))
-only_ready t = idle t (in_state Ready (met t)) refl refl refl
+only_ready : (t : Tag) → Idle t (record (met t) { state = Ready })
+only_ready t = idle t (record (met t) { state = Ready }) refl refl refl
 
 only_joined : (t : Tag) → Idle t (joined (met t))
 only_joined t = idle t (joined (met t)) refl refl refl
@@ -59,8 +59,8 @@ from_idle frame t u d r p w i =
       mark = rw w (ap mark_number i.mark ∙ one_less t.mark);
     }
 
-may_leave : (t : Tag) (leaves : Bool) → Idle t (cond leaves (in_state Ready (met t)) (joined (met t)))
-may_leave t leaves = either (Idle t) leaves (in_state Ready (met t)) (joined (met t)) (only_ready t) (only_joined t)
+may_leave : (t : Tag) (leaves : Bool) → Idle t (cond leaves (record (met t) { state = Ready }) (joined (met t)))
+may_leave t leaves = either (Idle t) leaves (record (met t) { state = Ready }) (joined (met t)) (only_ready t) (only_joined t)
 
 not_opened : (coin : Bool) (t : Tag) (b : Bool) → Idle t (obeyed (cond b damaged unknown) coin t.permission (met t))
 not_opened coin t true = only_ready t

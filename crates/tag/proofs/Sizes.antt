@@ -5,7 +5,7 @@ use Rattle.record.specs.declared.State.TheVariants.{Ready}
 use Rattle.record.specs.declared.WriteMark.TheVariants.{Clear, Fresh}
 use Rattle.record.specs.declared.Tag.{Tag}
 use Rattle.record.specs.Masks.{stored, matches}
-use Rattle.record.specs.Records.{is_write_ok, in_state, marking, permitting, remembering, locking}
+use Rattle.record.specs.Records.{is_write_ok}
 use Rattle.record.proofs.Sizes.{length-stored}
 use Rattle.tag.specs.Orders.{Order, select, unselect_ne, unselect_id_flag, unselect_noid_flag, query, scroll, again, reset, read, verify, write, lock, qlock, damaged, unknown, order}
 use Rattle.tag.proofs.Branches.{either, singulated, inventoried}
@@ -19,9 +19,9 @@ Has n t = length t.memory ≡ n
 pub length-obeyed : (o : Order) (coin : Bool) (p : Option ℕ) (t : Tag) → Has (length t.memory) (obeyed o coin p t)
 length-obeyed (select a mask word) coin p t = either (Has _) (is_chosen t.state (matches t.memory a mask word)) (joined t) t refl refl
 length-obeyed (unselect_ne a mask word) coin p t =
-    singulated (Has _) t.state _ t (either (Has _) (not (matches t.memory a mask word)) (in_state Ready t) (joined t) refl refl) refl
-length-obeyed unselect_id_flag coin p t = singulated (Has _) t.state _ t (either (Has _) t.identified (in_state Ready t) (joined t) refl refl) refl
-length-obeyed unselect_noid_flag coin p t = singulated (Has _) t.state _ t (either (Has _) (not t.identified) (in_state Ready t) (joined t) refl refl) refl
+    singulated (Has _) t.state _ t (either (Has _) (not (matches t.memory a mask word)) (record t { state = Ready }) (joined t) refl refl) refl
+length-obeyed unselect_id_flag coin p t = singulated (Has _) t.state _ t (either (Has _) t.identified (record t { state = Ready }) (joined t) refl refl) refl
+length-obeyed unselect_noid_flag coin p t = singulated (Has _) t.state _ t (either (Has _) (not t.identified) (record t { state = Ready }) (joined t) refl refl) refl
 length-obeyed query coin p t = singulated (Has _) t.state _ t refl refl
 length-obeyed scroll coin p t = singulated (Has _) t.state _ t refl refl
 length-obeyed again coin p t = refl
@@ -31,11 +31,11 @@ length-obeyed (verify serial a) coin p t =
     either (Has _) (is_meant t serial) (verified t) t (either (Has _) (is_write_ok t.mark) (moved t) t refl refl) refl
 length-obeyed (write serial a mask bytes) coin p t =
     either (Has _) (is_meant t serial) (written a mask bytes t) t
-    (either (Has _) (is_writable t a) (permitting _ (marking Fresh (remembering (stored a mask bytes t.memory 4) (moved t)))) (marking Clear (moved t))
+    (either (Has _) (is_writable t a) (record (moved t) { memory = stored a mask bytes t.memory 4; mark = Fresh; permission = _ }) (record (moved t) { mark = Clear })
     (length-stored a mask bytes t.memory 4) refl) refl
 length-obeyed (lock serial a) coin p t =
     either (Has _) (is_meant t serial) _ t
-    (inventoried (Has _) t.state (locked p a t) t (either (Has _) (is_lockable p a) (marking Fresh (locking _ t)) (marking Clear t) refl refl) refl) refl
+    (inventoried (Has _) t.state (locked p a t) t (either (Has _) (is_lockable p a) (record t { locks = _; mark = Fresh }) (record t { mark = Clear }) refl refl) refl) refl
 length-obeyed (qlock serial a) coin p t = either (Has _) (is_meant t serial) _ t refl refl
 length-obeyed damaged coin p t = refl
 length-obeyed unknown coin p t = refl

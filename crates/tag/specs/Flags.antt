@@ -1,5 +1,5 @@
 -- What a frame changes in the ID flag of a tag. Assumes nothing.
-use Rattle.std.specs.Prelude.{◌≡◌, ℕ, Bool, true, false, cond, ◌&&◌, ◌||◌}
+use Rattle.std.specs.Prelude.{◌≡◌, ℕ, Bool, true, false, if◌then◌else◌, ◌&&◌, ◌||◌, IsTrue, IsFalse}
 use Rattle.protocol.specs.declared.command.Command.TheVariants.{Reset, Read, Verify, Qlock, ReadFlexible, Write}
 use Rattle.frame.specs.Openings.{Opening, refused}
 use Rattle.record.specs.declared.Tag.{Tag}
@@ -15,8 +15,9 @@ is_dealt_with frame t =
 -- A tag before and after a frame: the flag is set where a reader reads or writes at the tag, cleared by RESET, and
 -- otherwise as it was.
 pub record Flagged (frame : Opening) (before after : Tag) : Type 0 where
-  pub flag : after.identified ≡ cond (is_dealt_with frame before) true (cond (is_a Reset frame) false before.identified)
+  pub flag : after.identified
+      ≡ (if is_dealt_with frame before then true else (if is_a Reset frame then false else before.identified))
   -- A frame that does not open, as with a wrong check value, neither sets nor clears it.
   pub refusals : (n : ℕ) → frame ≡ refused n → after.identified ≡ before.identified
   -- RESET alone clears it.
-  pub cleared : before.identified ≡ true → after.identified ≡ false → is_a Reset frame ≡ true
+  pub cleared : IsTrue before.identified → IsFalse after.identified → IsTrue (is_a Reset frame)

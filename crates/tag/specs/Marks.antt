@@ -1,5 +1,5 @@
 -- What a frame makes of the write mark of a tag. Assumes nothing.
-use Rattle.std.specs.Prelude.{◌≡◌, ◌-◌, Bool, cond, ◌||◌}
+use Rattle.std.specs.Prelude.{◌≡◌, ◌-◌, Bool, if◌then◌else◌, ◌||◌}
 use Rattle.protocol.specs.declared.command.Command.TheVariants.{Write}
 use Rattle.frame.specs.Openings.{Opening}
 use Rattle.record.specs.declared.Tag.{Tag}
@@ -17,4 +17,5 @@ is_done frame t = stores_in frame t || locks_in frame t
 -- A tag before and after a frame: a change that is done makes the mark 2, one that is tried in vain 0. Whatever else
 -- the frame is, the mark falls by one, if it is not 0.
 pub record Remarked (frame : Opening) (before after : Tag) : Type 0 where
-  pub mark : mark_number after.mark ≡ cond (is_tried frame before) (cond (is_done frame before) 2 0) (mark_number before.mark - 1)
+  pub mark : mark_number after.mark
+      ≡ (if is_tried frame before then (if is_done frame before then 2 else 0) else mark_number before.mark - 1)

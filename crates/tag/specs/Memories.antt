@@ -1,5 +1,5 @@
 -- What a frame changes in the memory of a tag, address by address. Assumes nothing.
-use Rattle.std.specs.Prelude.{◌≡◌, ℕ, ◌+◌, ◌-◌, Bool, cond, ◌&&◌, ◌||◌, ◌==◌, nat_le, nat_lt, slice_index}
+use Rattle.std.specs.Prelude.{◌≡◌, ℕ, ◌+◌, ◌-◌, Bool, if◌then◌else◌, ◌&&◌, ◌||◌, ◌==◌, nat_le, nat_lt, slice_index}
 use Rattle.protocol.specs.declared.command.Parameter.TheVariants.{Mask, Data}
 use Rattle.frame.specs.Openings.{Opening, parts_in}
 use Rattle.frame.specs.Parts.{bytes_of}
@@ -27,5 +27,5 @@ locks_at frame t i = locks_in frame t && i == address_in frame
 
 -- A tag before and after a frame: each byte and each lock is as it was, unless the frame stores or locks just there.
 pub record Accounted (frame : Opening) (before after : Tag) : Type 0 where
-  pub bytes : (i : ℕ) → byte_at after i ≡ cond (stores_at frame before i) (brought_to frame i) (byte_at before i)
+  pub bytes : (i : ℕ) → byte_at after i ≡ (if stores_at frame before i then brought_to frame i else byte_at before i)
   pub locks : (i : ℕ) → locked_at after i ≡ (locked_at before i || locks_at frame before i)

@@ -1,5 +1,5 @@
 -- What a frame asks of the tags that hear it. Assumes nothing.
-use Rattle.std.specs.Prelude.{ℕ, Bool, ◌+◌, cond, List, nat_lt, slice_index}
+use Rattle.std.specs.Prelude.{ℕ, Bool, ◌+◌, if◌then◌else◌, List, nat_lt, slice_index}
 use Rattle.protocol.specs.declared.command.Command.{Command}
 use Rattle.protocol.specs.declared.command.Command.TheVariants.{Select, UnselectNe, UnselectIdFlag, UnselectNoidFlag, Query, Scroll, Repeat, Reset, Read, Verify, Lock, Qlock, ReadFlexible, Write}
 use Rattle.protocol.specs.declared.command.Parameter.{Parameter}
@@ -60,5 +60,5 @@ asked Qlock parts = qlock (bytes_of Serial parts) (byte_of Address parts)
 
 -- The order in what opening gave. The refusals are 1 to 4.
 abbrev pub order : Opening → Order
-order (refused n) = cond (nat_lt n 3) damaged unknown
+order (refused n) = if nat_lt n 3 then damaged else unknown
 order (opened code c parts) = asked c parts

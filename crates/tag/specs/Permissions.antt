@@ -1,5 +1,5 @@
 -- What a frame leaves of a tag's permission to lock. Assumes nothing.
-use Rattle.std.specs.Prelude.{◌≡◌, Bool, true, cond, ◌||◌, Some, None}
+use Rattle.std.specs.Prelude.{◌≡◌, Bool, if◌then◌else◌, ◌||◌, Some, None, IsTrue}
 use Rattle.protocol.specs.declared.command.Command.TheVariants.{Read, Verify, Qlock, ReadFlexible}
 use Rattle.frame.specs.Openings.{Opening}
 use Rattle.record.specs.declared.Tag.{Tag}
@@ -11,6 +11,6 @@ permits frame t = is_for Read frame t || (is_for ReadFlexible frame t || (is_for
 
 -- A tag after a frame: what is permitted is that frame's address, if it permits, and nothing else.
 pub record Permitted (frame : Opening) (before after : Tag) : Type 0 where
-  pub permission : after.permission ≡ cond (permits frame before) (Some (address_in frame)) None
+  pub permission : after.permission ≡ (if permits frame before then Some (address_in frame) else None)
   -- A VERIFY permits nothing, and leaves nothing permitted.
-  pub verify : is_a Verify frame ≡ true → after.permission ≡ None
+  pub verify : IsTrue (is_a Verify frame) → after.permission ≡ None

@@ -1,5 +1,6 @@
 -- What a frame does to a tag, and what the tag replies. Assumes nothing.
-use Rattle.std.specs.Prelude.{ℕ, ◌+◌, ◌-◌, ◌%◌, Bool, true, false, cond, not, ◌&&◌, ◌||◌, List, [], ◌∷◌, Some, None, Option, ◌==◌, nat_lt, slice_set}
+use Rattle.std.specs.Prelude.{ℕ, ◌+◌, ◌-◌, ◌%◌, Bool, true, false, if◌then◌else◌, not, ◌&&◌, ◌||◌, ◌∷◌, ◌==◌}
+use Rattle.std.specs.Prelude.{List, [], Some, None, Option, nat_lt, slice_set}
 use Rattle.std.specs.Str.{bytes_eq}
 use Rattle.frame.specs.Openings.{Opening}
 use Rattle.record.specs.declared.State.{State}
@@ -8,12 +9,12 @@ use Rattle.record.specs.declared.WriteMark.TheVariants.{Clear, Fresh}
 use Rattle.record.specs.declared.Tag.{Tag}
 use Rattle.record.specs.Masks.{matches, stored}
 use Rattle.tag.specs.Orders.{Order, select, unselect_ne, unselect_id_flag, unselect_noid_flag, query, scroll, again, reset, read, verify, write, lock, qlock, damaged, unknown, order}
-use Rattle.record.specs.Records.{fallen, is_write_ok, locked_at, bytes_from, serial_of, in_state, flagging, counting_to, marking, permitting, remembering, locking}
+use Rattle.record.specs.Records.{fallen, is_write_ok, locked_at, bytes_from, serial_of}
 use Rattle.reply.specs.Replies.{sounding}
 
 -- What every frame does first to a tag. The old permission serves this frame only.
 abbrev pub met : Tag → Tag
-met t = permitting None (marking (fallen t.mark) t)
+met t = record t { mark = fallen t.mark; permission = None }
 
 -- The first for a tag in SINGULATION, the second for any other.
 abbrev pub if_singulated : {X : Type 0} → State → X → X → X
@@ -35,30 +36,30 @@ is_chosen Inventoried matching = false
 
 -- A tag that is selected, from the first turn on.
 abbrev pub joined : Tag → Tag
-joined t = in_state Singulation (counting_to 0 t)
+joined t = record t { state = Singulation; counter = 0 }
 
 -- The three UNSELECTs: a tag leaves silently, or stays and replies its serial number.
 abbrev pub unselected : Bool → Tag → Tag
-unselected leaves t = cond leaves (in_state Ready t) (joined t)
+unselected leaves t = if leaves then record t { state = Ready } else joined t
 
 abbrev pub staying : Bool → Tag → Option (List ℕ)
-staying leaves t = cond leaves None (Some (serial_of t))
+staying leaves t = if leaves then None else Some (serial_of t)
 
 -- The counter rises by one, unless it is FF, where it stays.
 abbrev pub risen : ℕ → ℕ
-risen n = cond (n == 0xff) n (n + 1)
+risen n = if n == 0xff then n else n + 1
 
 -- The counter after QUERY.
 abbrev pub drawn : Bool → ℕ → ℕ
-drawn coin n = cond (nat_lt 0 n || coin) (risen n) n
+drawn coin n = if nat_lt 0 n || coin then risen n else n
 
 -- A tag at which a reader has read or written: INVENTORIED, with its ID flag set.
 abbrev pub moved : Tag → Tag
-moved t = in_state Inventoried (flagging true t)
+moved t = record t { state = Inventoried; identified = true }
 
 -- VERIFY: only under WRITE_OK does a tag move.
 abbrev pub verified : Tag → Tag
-verified t = cond (is_write_ok t.mark) (moved t) t
+verified t = if is_write_ok t.mark then moved t else t
 
 -- Whether WRITE may store at an address: a multiple of 4, and none of the four bytes is locked.
 abbrev pub is_writable : Tag → ℕ → Bool
@@ -66,8 +67,9 @@ is_writable t a = a % 4 == 0 && not (locked_at t a || locked_at t (a + 1) || loc
 
 abbrev pub written : ℕ → ℕ → List ℕ → Tag → Tag
 written a mask bytes t =
-    cond (is_writable t a) (permitting (Some a) (marking Fresh (remembering (stored a mask bytes t.memory 4) (moved t))))
-    (marking Clear (moved t))
+    if is_writable t a
+    then record (moved t) { memory = stored a mask bytes t.memory 4; mark = Fresh; permission = Some a }
+    else record (moved t) { mark = Clear }
 
 -- Whether LOCK may lock an address: it was permitted, and is at most 37.
 abbrev pub is_lockable : Option ℕ → ℕ → Bool
@@ -75,11 +77,13 @@ is_lockable None a = false
 is_lockable (Some p) a = p == a && nat_lt a 56
 
 abbrev pub locked : Option ℕ → ℕ → Tag → Tag
-locked permitted a t = cond (is_lockable permitted a) (marking Fresh (locking (slice_set t.locks a true) t)) (marking Clear t)
+locked permitted a t =
+    if is_lockable permitted a then record t { locks = slice_set t.locks a true; mark = Fresh }
+    else record t { mark = Clear }
 
 -- What QLOCK tells of a byte.
 abbrev pub lock_status : Bool → Bool → ℕ
-lock_status locked_byte ok = cond locked_byte (cond ok 0xff 0xfe) (cond ok 0x01 0x00)
+lock_status locked_byte ok = if locked_byte then (if ok then 0xff else 0xfe) else (if ok then 0x01 else 0x00)
 
 -- Whether a tag has a serial number.
 abbrev pub is_meant : Tag → List ℕ → Bool
@@ -87,29 +91,31 @@ is_meant t serial = bytes_eq (serial_of t) serial
 
 -- What an order does to a tag that its frame has met, given what was permitted before.
 abbrev pub obeyed : Order → Bool → Option ℕ → Tag → Tag
-obeyed (select a mask word) coin permitted t = cond (is_chosen t.state (matches t.memory a mask word)) (joined t) t
+obeyed (select a mask word) coin permitted t = if is_chosen t.state (matches t.memory a mask word) then joined t else t
 obeyed (unselect_ne a mask word) coin permitted t = if_singulated t.state (unselected (not (matches t.memory a mask word)) t) t
 obeyed unselect_id_flag coin permitted t = if_singulated t.state (unselected t.identified t) t
 obeyed unselect_noid_flag coin permitted t = if_singulated t.state (unselected (not t.identified) t) t
-obeyed query coin permitted t = if_singulated t.state (counting_to (drawn coin t.counter) t) t
-obeyed scroll coin permitted t = if_singulated t.state (counting_to (t.counter - 1) t) t
+obeyed query coin permitted t = if_singulated t.state (record t { counter = drawn coin t.counter }) t
+obeyed scroll coin permitted t = if_singulated t.state (record t { counter = t.counter - 1 }) t
 obeyed again coin permitted t = t
-obeyed reset coin permitted t = in_state Ready (flagging false t)
-obeyed (read serial a n) coin permitted t = cond (is_meant t serial) (permitting (Some a) (moved t)) t
-obeyed (verify serial a) coin permitted t = cond (is_meant t serial) (verified t) t
-obeyed (write serial a mask bytes) coin permitted t = cond (is_meant t serial) (written a mask bytes t) t
-obeyed (lock serial a) coin permitted t = cond (is_meant t serial) (if_inventoried t.state (locked permitted a t) t) t
-obeyed (qlock serial a) coin permitted t = cond (is_meant t serial) (permitting (Some a) (moved t)) t
-obeyed damaged coin permitted t = in_state Ready t
+obeyed reset coin permitted t = record t { state = Ready; identified = false }
+obeyed (read serial a n) coin permitted t = if is_meant t serial then record (moved t) { permission = Some a } else t
+obeyed (verify serial a) coin permitted t = if is_meant t serial then verified t else t
+obeyed (write serial a mask bytes) coin permitted t = if is_meant t serial then written a mask bytes t else t
+obeyed (lock serial a) coin permitted t =
+    if is_meant t serial then if_inventoried t.state (locked permitted a t) t else t
+obeyed (qlock serial a) coin permitted t = if is_meant t serial then record (moved t) { permission = Some a } else t
+obeyed damaged coin permitted t = record t { state = Ready }
 obeyed unknown coin permitted t = t
 
 -- The serial number, if it is a tag's turn: its counter is 0.
 abbrev pub in_turn : ℕ → Tag → Option (List ℕ)
-in_turn counter t = cond (counter == 0) (Some (serial_of t)) None
+in_turn counter t = if counter == 0 then Some (serial_of t) else None
 
 -- The data that a tag, met by the frame, replies to an order, if it does.
 abbrev pub answered : Order → Bool → Tag → Option (List ℕ)
-answered (select a mask word) coin t = cond (is_chosen t.state (matches t.memory a mask word)) (Some (serial_of t)) None
+answered (select a mask word) coin t =
+    if is_chosen t.state (matches t.memory a mask word) then Some (serial_of t) else None
 answered (unselect_ne a mask word) coin t = if_singulated t.state (staying (not (matches t.memory a mask word)) t) None
 answered unselect_id_flag coin t = if_singulated t.state (staying t.identified t) None
 answered unselect_noid_flag coin t = if_singulated t.state (staying (not t.identified) t) None
@@ -117,11 +123,14 @@ answered query coin t = if_singulated t.state (in_turn (drawn coin t.counter) t)
 answered scroll coin t = if_singulated t.state (in_turn (t.counter - 1) t) None
 answered again coin t = if_singulated t.state (in_turn t.counter t) None
 answered reset coin t = None
-answered (read serial a n) coin t = cond (is_meant t serial) (Some (bytes_from t.memory a n)) None
-answered (verify serial a) coin t = cond (is_meant t serial) (cond (is_write_ok t.mark) (Some (bytes_from t.memory a 4)) None) None
-answered (write serial a mask bytes) coin t = cond (is_meant t serial) (Some (cond (is_writable t a) 0x00 0xff ∷ [])) None
-answered (lock serial a) coin t = cond (is_meant t serial) (if_inventoried t.state (Some (0x00 ∷ [])) None) None
-answered (qlock serial a) coin t = cond (is_meant t serial) (Some (lock_status (locked_at t a) (is_write_ok t.mark) ∷ [])) None
+answered (read serial a n) coin t = if is_meant t serial then Some (bytes_from t.memory a n) else None
+answered (verify serial a) coin t =
+    if is_meant t serial then (if is_write_ok t.mark then Some (bytes_from t.memory a 4) else None) else None
+answered (write serial a mask bytes) coin t =
+    if is_meant t serial then Some ((if is_writable t a then 0x00 else 0xff) ∷ []) else None
+answered (lock serial a) coin t = if is_meant t serial then if_inventoried t.state (Some (0x00 ∷ [])) None else None
+answered (qlock serial a) coin t =
+    if is_meant t serial then Some (lock_status (locked_at t a) (is_write_ok t.mark) ∷ []) else None
 answered damaged coin t = None
 answered unknown coin t = None
 

@@ -3,7 +3,6 @@
 ghost use Rattle.std.specs.Prelude.{◌≡◌, ◌-◌, false, not, if◌then◌else◌, Some, None};
 ghost use Rattle.record.specs.declared.State.TheVariants.{Ready};
 ghost use Rattle.record.specs.Records.{is_write_ok, bytes_from, locked_at};
-ghost use Rattle.record.specs.Records.{in_state, flagging, counting_to, permitting};
 ghost use Rattle.reply.specs.Replies.{data_in};
 ghost use Rattle.tag.specs.Orders.{is_matching};
 ghost use Rattle.tag.specs.Steps.{joined, unselected, staying, drawn, in_turn, moved, verified};
@@ -68,7 +67,7 @@ fn unselect(tag: &mut Tag, leaves: bool) -> Option<Reply>
 }
 
 pub(crate) fn query(tag: &mut Tag, coin: bool) -> Option<Reply>
-    ensures after { tag.new ≡ counting_to (drawn coin tag.old.counter) tag.old }
+    ensures after { tag.new ≡ record tag.old { counter = drawn coin tag.old.counter } }
     ensures reply { data_in tag.new result ≡ in_turn (drawn coin tag.old.counter) tag.old }
 {
     if tag.counter > 0 || coin {
@@ -78,7 +77,7 @@ pub(crate) fn query(tag: &mut Tag, coin: bool) -> Option<Reply>
 }
 
 pub(crate) fn scroll(tag: &mut Tag) -> Option<Reply>
-    ensures after { tag.new ≡ counting_to (tag.old.counter - 1) tag.old }
+    ensures after { tag.new ≡ record tag.old { counter = tag.old.counter - 1 } }
     ensures reply { data_in tag.new result ≡ in_turn (tag.old.counter - 1) tag.old }
 {
     tag.counter = tag.counter.saturating_sub(1);
@@ -97,7 +96,7 @@ pub(crate) fn in_turn(tag: &Tag) -> Option<Reply>
 }
 
 pub(crate) fn reset(tag: &mut Tag) -> Option<Reply>
-    ensures after { tag.new ≡ in_state Ready (flagging false tag.old) }
+    ensures after { tag.new ≡ record tag.old { state = Ready; identified = false } }
     ensures reply { result ≡ None }
 {
     tag.state = State::Ready;
@@ -107,7 +106,7 @@ pub(crate) fn reset(tag: &mut Tag) -> Option<Reply>
 
 // READ: the byte at an address and seven more.
 pub(crate) fn read_eight(tag: &mut Tag, address: u8) -> Option<Reply>
-    ensures after { tag.new ≡ permitting (Some address) (moved tag.old) }
+    ensures after { tag.new ≡ record (moved tag.old) { permission = Some address } }
     ensures reply { result ≡ Some (Reply.Memory address 7) }
 {
     read(tag, address, 7)
@@ -115,7 +114,7 @@ pub(crate) fn read_eight(tag: &mut Tag, address: u8) -> Option<Reply>
 
 // READ_FLEXIBLE: the byte at an address and so many more.
 pub(crate) fn read(tag: &mut Tag, address: u8, more: u8) -> Option<Reply>
-    ensures after { tag.new ≡ permitting (Some address) (moved tag.old) }
+    ensures after { tag.new ≡ record (moved tag.old) { permission = Some address } }
     ensures reply { result ≡ Some (Reply.Memory address more) }
 {
     shift(tag);
@@ -174,7 +173,7 @@ pub(crate) fn lock(tag: &mut Tag, address: u8, permitted: Option<u8>) -> Option<
 }
 
 pub(crate) fn qlock(tag: &mut Tag, address: u8) -> Option<Reply>
-    ensures after { tag.new ≡ permitting (Some address) (moved tag.old) }
+    ensures after { tag.new ≡ record (moved tag.old) { permission = Some address } }
     ensures reply { result ≡ Some (Reply.Status (lock_status (locked_at tag.old address) (is_write_ok tag.old.mark))) }
 {
     shift(tag);

@@ -1,8 +1,7 @@
 use Rattle.std.proofs.Common.{◌≡◌}
 use Rattle.record.specs.Masks.{stored}
-use Rattle.record.specs.Records.{remembering}
 use Rattle.record.proofs.Tag.store.Given as goal
 
 abbrev pub invariant-loop-place : goal.invariant-loop-place
 invariant-loop-place l =
-    l.self ≡ remembering (stored l.address l.mask l.bytes l.initial.self.memory l.place) l.initial.self
+    l.self ≡ record l.initial.self { memory = stored l.address l.mask l.bytes l.initial.self.memory l.place }

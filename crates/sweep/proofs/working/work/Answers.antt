@@ -1,37 +1,21 @@
-use Rattle.std.proofs.Common.{◌≡◌, ◌<◌, ◌≤◌, List, [], ◌∷◌, length, Ok, Err, Result, sym, refl, ap, ◌∙◌, subst, arith}
-use Rattle.std.proofs.lemmas.Bool.{true≢false}
-use Rattle.std.specs.Prelude.{IsErr, IsErrAnd}
+use Rattle.std.proofs.Common.{◌≡◌, ◌<◌, ◌≤◌, List, [], ◌∷◌, length, Ok, Err, sym, refl, ap, ◌∙◌, subst, arith}
 use Rattle.protocol.specs.declared.command.Command.TheVariants.{Select}
 use Rattle.rows.specs.Filling.{rows_of}
 use Rattle.field.specs.declared.hearing.Hearing.{Hearing}
 use Rattle.field.specs.declared.hearing.Hearing.TheVariants.{Silence, Lone, Clash}
 use Rattle.slot.specs.declared.row.SlotRow.{SlotRow}
 use Rattle.slot.specs.declared.counts.Counts.{Counts}
-use Rattle.slot.specs.declared.ending.Stopped.{Stopped}
 use Rattle.slot.specs.declared.kinds.Left.{Left}
 use Rattle.slot.specs.declared.kinds.Left.TheVariants as left
-use Rattle.slot.specs.declared.kinds.Unsplit.{Unsplit}
 use Rattle.slot.specs.declared.kinds.Unsplit.TheVariants as unsplit
-use Rattle.slot.specs.Countings.{stop_number, counted}
-use Rattle.slot.specs.Going.{Where, at_slot, over, counts_in, setting, IsLed, Leads, IsWithin, no_counts, row_of}
+use Rattle.slot.specs.Countings.{counted}
+use Rattle.slot.specs.Going.{Where, at_slot, counts_in, setting, IsLed, Leads, IsWithin, no_counts, row_of}
 use Rattle.slot.specs.Slots.{phase_of, stand_of, heard_in}
 use Rattle.slot.specs.Rules.{beginning}
 use Rattle.sweep.specs.Steps.{where_gone, where_worked, Tallied, HasSent}
+use Rattle.slot.proofs.Handing.{handed}
 use Rattle.sweep.proofs.Walks.{come_on, behind_on, few}
 use Rattle.sweep.proofs.working.work.Goals as goal
-
--- What stops a sweep is handed on as it is.
-stop_handed : (r : Result Counts Unsplit) (s : Stopped) → IsErr r → IsErrAnd r (λ e. e ≡ unsplit.Stopped s) → over (stop_number s.stop) s.counts ≡ where_worked r
-stop_handed (Ok x) s a b = absurd (true≢false (sym a))
-stop_handed (Err e) s a b = ap (λ (x : Unsplit). where_worked (Err x)) (sym b)
-
-gone_where : (u : Unsplit) → where_gone (Err u) ≡ where_worked (Err u)
-gone_where (unsplit.Refused d) = refl
-gone_where (unsplit.Stopped s) = refl
-
-gone_handed : (r : Result Counts Unsplit) (u : Unsplit) → IsErr r → IsErrAnd r (λ e. e ≡ u) → where_gone (Err u) ≡ where_worked r
-gone_handed (Ok x) u a b = absurd (true≢false (sym a))
-gone_handed (Err e) u a b = gone_where u ∙ ap (λ (x : Unsplit). where_worked (Err x)) (sym b)
 
 first_tally : (h : Hearing) (row : SlotRow) → row.hearing ≡ h → Tallied (counted h no_counts) (row ∷ [])
 first_tally Silence row e = record { lone = rw e refl; silent = rw e refl; clash = rw e refl }
@@ -41,7 +25,7 @@ first_tally Clash row e = record { lone = rw e refl; silent = rw e refl; clash =
 pub returns-in_err-slot-clause-rule : goal.returns-in_err-slot-clause-rule
 returns-in_err-slot-clause-rule g c =
     subst (λ (w : Where). IsLed g.F.Field (setting c.args.coins.now c.args.budget c.args.lists.now) (beginning (g.F.Field.tags c.args.field.now)) w c.args.field.now c.open.new.field c.open.new.lists)
-    (stop_handed c.from_residual.result c.in_err-slot.field-0.0 c.from_residual.ensures.0 c.from_residual.ensures.1) (c.in_err-slot.ensures.rule c.args.coins.now)
+    (handed where_worked c.from_residual.result (unsplit.Stopped c.in_err-slot.field-0.0) c.from_residual.ensures.1) (c.in_err-slot.ensures.rule c.args.coins.now)
 
 pub loop-next-init : goal.loop-next-init
 loop-next-init g c =
@@ -58,7 +42,7 @@ loop-next-init g c =
 pub returns-in_err-next-clause-rule : goal.returns-in_err-next-clause-rule
 returns-in_err-next-clause-rule g c =
     subst (λ (w : Where). IsLed g.F.Field (setting c.args.coins.now c.args.budget c.args.lists.now) (beginning (g.F.Field.tags c.args.field.now)) w c.args.field.now c.go_on.new.field c.go_on.new.lists)
-    (gone_handed c.from_residual-in_err-next.result c.in_err-next.field-0.0 c.from_residual-in_err-next.ensures.0 c.from_residual-in_err-next.ensures.1)
+    (handed where_worked c.from_residual-in_err-next.result c.in_err-next.field-0.0 c.from_residual-in_err-next.ensures.1)
     (come_on g.F.Field c.args.coins.now c.args.budget c.args.lists.now c.args.field.now (phase_of c.loop-next.slot) (stand_of c.loop-next.slot) c.loop-next.lists c.loop-next.field c.loop-next.invariant.rule c.loop-next.invariant.same c.loop-next.invariant.behind (where_gone (Err c.in_err-next.field-0.0)) c.go_on.new.lists c.go_on.new.field c.in_err-next.ensures.rule)
 
 pub returns-in_err-next-clause-behind : goal.returns-in_err-next-clause-behind
@@ -70,7 +54,7 @@ returns-in_err-next-clause-tally g c =
     let come = come_on g.F.Field c.args.coins.now c.args.budget c.args.lists.now c.args.field.now (phase_of c.loop-next.slot) (stand_of c.loop-next.slot) c.loop-next.lists c.loop-next.field c.loop-next.invariant.rule c.loop-next.invariant.same c.loop-next.invariant.behind (where_gone (Err c.in_err-next.field-0.0)) c.go_on.new.lists c.go_on.new.field c.in_err-next.ensures.rule in
     let short : length (rows_of c.go_on.new.lists.slots) ≤ 65535 = omega (arith, few g.F.Field c.args.coins.now c.args.budget c.args.lists.now c.args.field.now (where_gone (Err c.in_err-next.field-0.0)) c.go_on.new.field c.go_on.new.lists come, c.ranges.budget.fits) in
     subst (λ (w : Where). Tallied (counts_in w) (rows_of c.go_on.new.lists.slots))
-    (gone_handed c.from_residual-in_err-next.result c.in_err-next.field-0.0 c.from_residual-in_err-next.ensures.0 c.from_residual-in_err-next.ensures.1)
+    (handed where_worked c.from_residual-in_err-next.result c.in_err-next.field-0.0 c.from_residual-in_err-next.ensures.1)
     (c.in_err-next.ensures.tally c.loop-next.invariant.tally short)
 
 pub loop-next-smaller : goal.loop-next-smaller
