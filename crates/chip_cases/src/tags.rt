@@ -3,7 +3,7 @@ use crate::QUESTIONS;
 use crate::showing::Answer;
 use anyhow::bail;
 use frame::opening::open;
-use record::{SIZE, State, Tag};
+use record::{MEMORY_LENGTH, State, Tag};
 use reply::Reply;
 use spelling::hexadecimal::{read_array, read_byte, read_bytes};
 use spelling::sent::replied;
@@ -35,7 +35,7 @@ impl Asked<'_> {
     fn put(&mut self, verb: &str, rest: &str) -> anyhow::Result<Option<Reply>> {
         // A match and no table of closures, since each verb has words of its own.
         match verb {
-            "new" => self.tag = Tag::new(read_array::<SIZE>(rest)?),
+            "new" => self.tag = Tag::new(read_array::<MEMORY_LENGTH>(rest)?),
             "locks" => self.tag.locks = read_locks(rest)?,
             "set" => self.set(rest)?,
             "step" => return self.send(rest),

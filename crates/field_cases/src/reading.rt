@@ -6,19 +6,19 @@ ghost use Rattle.field_cases.specs.Listings.{SplitWords, SingleWords, SpeltRows}
 ghost use Rattle.field_cases.specs.Questions.{SpellsRow, first_word, behind_first, IsOneWord};
 
 use anyhow::bail;
-use record::{SIZE, State, Tag};
+use record::{MEMORY_LENGTH, State, Tag};
 use spelling::hexadecimal::{read_array, read_byte, read_bytes};
 use spelling::misspelt::Misspelt;
 use spelling::words::{no_word, read_bit, read_locks, read_mark, read_permission, word};
 use std::alloc::Global;
 
 // The first bytes of a memory, whose others are 00.
-fn read_memory(heap: Global, text: &str) -> anyhow::Result<[u8; SIZE]> {
+fn read_memory(heap: Global, text: &str) -> anyhow::Result<[u8; MEMORY_LENGTH]> {
     let bytes = read_bytes(heap, text)?;
-    if bytes.len() > SIZE {
+    if bytes.len() > MEMORY_LENGTH {
         bail!("too many bytes for a memory");
     }
-    let mut memory = [0; SIZE];
+    let mut memory = [0; MEMORY_LENGTH];
     for (place, byte) in memory.iter_mut().zip(bytes.iter()) {
         *place = *byte;
     }

@@ -9,9 +9,10 @@ use field::field::ROOM;
 use field::lending::Lending;
 use history::call::Call;
 use history::desk::Desk;
+use record::Serial;
 use rows::list::Rows;
 use slot::lists::Lists;
-use slot::row::{BLANK, Serial, SlotRow};
+use slot::row::{BLANK, SlotRow};
 
 // SCROLL, which no tag answers before it is selected.
 const SCROLL: [u8; 3] = [0x09, 0x8f, 0x26];

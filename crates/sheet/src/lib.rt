@@ -17,8 +17,9 @@ use crate::front::Front;
 use crate::printing::print;
 use crate::room::Room;
 use protocol::refusal::Refusal;
+use record::Serial;
 use slot::ending::Report;
-use slot::row::{Serial, SlotRow};
+use slot::row::SlotRow;
 
 // Writes the sheet at the front of a buffer, and tells its length.
 #[tactic(auto, using(crate::proofs::Readings::lines_read_back, crate::proofs::Listed::columns_listed, crate::proofs::Listed::sheets_printed, crate::proofs::Listed::sheet_rooms))]

@@ -5,8 +5,9 @@ ghost use Rattle.sheet.specs.Sheets.{sheet, slot_line, slot_lines, serial_line, 
 
 use crate::paper::Paper;
 use protocol::refusal::Refusal;
+use record::Serial;
 use slot::ending::Report;
-use slot::row::{Serial, SlotRow};
+use slot::row::SlotRow;
 
 // How wide a column of numbers is, and one of bytes.
 const NUMBER_WIDTH: usize = 6;

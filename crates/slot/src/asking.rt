@@ -6,12 +6,11 @@ ghost use Rattle.field.specs.Promises.{AfterSend};
 ghost use Rattle.field.specs.Sends.{on_air};
 ghost use Rattle.slot.specs.Commands.{frame_of, target, serial_in};
 
-use crate::row::Serial;
 use field::field::{Field, ROOM};
 use field::hearing::Hearing;
 use frame::making::make;
 use protocol::command::Command;
-use record::SERIAL;
+use record::{SERIAL_LENGTH, Serial};
 
 // How many bytes the longest frame has.
 const LONGEST: usize = 17;
@@ -40,8 +39,8 @@ pub(crate) fn read<F: Field>(field: &mut F, serial: &[u8]) -> Hearing
     requires { length serial.now ≡ 8 }
     ensures { AfterSend F.Field (frame_of Command.Read (target serial.now)) 0 result field.old field.new }
 {
-    let mut target = [0; SERIAL + 1];
-    target[..SERIAL].copy_from_slice(serial);
+    let mut target = [0; SERIAL_LENGTH + 1];
+    target[..SERIAL_LENGTH].copy_from_slice(serial);
     ask(field, Command::Read, &target, 0).hearing
 }
 
@@ -71,9 +70,9 @@ fn transmit<F: Field>(field: &mut F, bytes: &[u8], row: u64) -> Answer
     ensures serial { result.serial ≡ serial_in result.hearing (on_air (opening bytes.now) row (F.tags field.old)) }
 {
     let mut reply = [0; ROOM];
-    let mut serial = [0; SERIAL];
+    let mut serial = [0; SERIAL_LENGTH];
     let heard = field.send(bytes, row, &mut reply);
-    serial.copy_from_slice(&reply[..SERIAL]);
+    serial.copy_from_slice(&reply[..SERIAL_LENGTH]);
     // A buffer of this length is never refused.
     Answer {
         hearing: heard.unwrap_or(Hearing::Silence),

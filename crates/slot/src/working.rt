@@ -18,7 +18,6 @@ use crate::ending::{Stop, Stopped};
 use crate::kinds::{ClashSlot, GivenUp, Left, LoneSlot, SilentSlot, Slot, Stand, Unsplit};
 use crate::lists::Lists;
 use crate::opening::{coins_at, query, scroll, select};
-use crate::row::Serial;
 use field::declined::Declined;
 use field::field::Field;
 use field::hearing::Hearing;

@@ -5,12 +5,12 @@ use bench::bench::Bench;
 use field::field::Field;
 use field::hearing::Hearing;
 use protocol::command::Command;
-use record::{SIZE, Tag};
+use record::{MEMORY_LENGTH, Serial, Tag};
 use rows::list::Rows;
 use slot::counts::Counts;
 use slot::kinds::{Left, Slot, Unsplit};
 use slot::lists::Lists;
-use slot::row::{Serial, SlotRow};
+use slot::row::SlotRow;
 use slot::working::open;
 use std::io;
 
@@ -28,7 +28,7 @@ const UNUSED: SlotRow = SlotRow {
 };
 
 fn new_tag(number: u8) -> Tag {
-    let mut memory = [0; SIZE];
+    let mut memory = [0; MEMORY_LENGTH];
     memory[..8].copy_from_slice(&[0xef, 0x04, 0x02, 0, 0, 0, 0, number]);
     Tag::new(memory)
 }

@@ -7,11 +7,11 @@ ghost use Rattle.spelling.specs.declared.misspelt.Misspelt.TheVariants.{Bytes, B
 
 use crate::hexadecimal::{read_array, read_byte};
 use crate::misspelt::Misspelt;
-use record::{SIZE, WriteMark};
+use record::{MEMORY_LENGTH, WriteMark};
 use std::array;
 
 // A lock bit for each of a tag's bytes.
-const LOCK_BYTES: usize = SIZE / 8;
+const LOCK_BYTES: usize = MEMORY_LENGTH / 8;
 
 // A word that has to be there.
 pub fn word(next: Option<&str>) -> Result<&str, Misspelt>
@@ -66,7 +66,7 @@ pub fn read_permission(text: &str) -> Result<Option<u8>, Misspelt>
 
 // The highest bit of the first byte is address 00.
 #[tactic(auto, using(crate::proofs::Listed::spelt_locks))]
-pub fn read_locks(text: &str) -> Result<[bool; SIZE], Misspelt>
+pub fn read_locks(text: &str) -> Result<[bool; MEMORY_LENGTH], Misspelt>
     ensures locks { Reads SpellsLocks Bytes text.now result }
     ensures worked { SpeltLocks }
 {
