@@ -99,7 +99,7 @@ impl Storage {
     fn of_slots(&self) -> Fingerprint {
         self.slots.iter().fold(Fingerprint::new(), |value, row| {
             value
-                .with(u8::from(row.command))
+                .with(row.command.code())
                 .with(row.hearing.number())
                 .with(row.waiting)
         })

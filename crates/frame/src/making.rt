@@ -59,7 +59,7 @@ impl<'a> Draft<'a> {
             return Err(Refusal::Buffer);
         }
         let mut writer = Writer::new(buffer);
-        writer.put(&[u8::from(self.command)])?;
+        writer.put(&[self.command.code()])?;
         writer.put(self.parameters)?;
         writer.seal()?;
         Ok(writer.filled())

@@ -136,11 +136,12 @@ pub const COMMANDS: [Entry; 14] = [
     },
 ];
 
-impl From<Command> for u8 {
-    ghost from_gives = { λ command code. code ≡ code_of command };
-
-    fn from(command: Command) -> u8 {
-        command as u8
+impl Command {
+    // The first byte of its frames.
+    pub fn code(self) -> u8
+        ensures { result ≡ code_of self }
+    {
+        self as u8
     }
 }
 

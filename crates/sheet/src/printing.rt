@@ -43,7 +43,7 @@ fn print_slot<P: Paper>(paper: &mut P, number: u64, slot: &SlotRow) -> Result<()
 {
     let numbers = [
         number,
-        u64::from(u8::from(slot.command)),
+        u64::from(slot.command.code()),
         u64::from(slot.hearing.number()),
         u64::from(slot.waiting),
     ];

@@ -58,7 +58,7 @@ fn put_frame(command: Command, parameters: &[u8], frame: &mut [u8]) -> usize
     ensures inside { result ≤ length frame.old }
     ensures made { take result frame.new ≡ frame_of command parameters.now }
 {
-    match make(u8::from(command), parameters, frame) {
+    match make(command.code(), parameters, frame) {
         Ok(length) => length,
         Err(_) => 0,
     }

@@ -52,7 +52,7 @@ fn send_all<F: Field>(
     sends: usize,
 ) -> anyhow::Result<Tally> {
     let mut buffer = [0; ROOM];
-    let select = framed(heap, u8::from(Command::Select), &OWN)?;
+    let select = framed(heap, Command::Select.code(), &OWN)?;
     field.send(select.as_slice(), 0, &mut buffer)?;
     let frames = load.frames(heap)?;
     let mut tally = Tally::default();

@@ -81,12 +81,12 @@ impl Player<'_> {
     }
 
     fn send(&mut self, command: Command, parameters: &[u8]) -> anyhow::Result<()> {
-        let frame = framed(self.rt.alloc(), u8::from(command), parameters)?;
+        let frame = framed(self.rt.alloc(), command.code(), parameters)?;
         self.say(command.name(), frame.as_slice())
     }
 
     fn send_damaged(&mut self, command: Command) -> anyhow::Result<()> {
-        let mut frame = framed(self.rt.alloc(), u8::from(command), &[])?;
+        let mut frame = framed(self.rt.alloc(), command.code(), &[])?;
         if let Some(last) = frame.last_mut() {
             *last ^= 1;
         }
