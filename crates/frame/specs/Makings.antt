@@ -19,6 +19,10 @@ for_command (Some c) code parameters room =
     cond (length parameters + 3 == length_of c)
     (cond (nat_lt room (length_of c)) (unmade 5) (made (sealed (code ∷ parameters)))) (unmade 4)
 
+-- How many bytes the longest frame has.
+abbrev pub longest_frame : ℕ
+longest_frame = 17
+
 -- Making, in a buffer with some room: the refusals in the order in which they are tried, and else the frame.
 unfoldable pub making : ℕ → List ℕ → ℕ → Making
 making code parameters room = for_command (named code) code parameters room

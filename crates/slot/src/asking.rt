@@ -1,5 +1,6 @@
 // Sending one command, made from its code and parameters.
 ghost use Rattle.std.specs.Prelude.{◌≡◌, ◌+◌, ◌≤◌, [], length, take};
+ghost use Rattle.frame.specs.Makings.{longest_frame};
 ghost use Rattle.frame.specs.Openings.{opening};
 ghost use Rattle.protocol.specs.Commands.{length_of};
 ghost use Rattle.field.specs.Promises.{AfterSend};
@@ -8,12 +9,9 @@ ghost use Rattle.slot.specs.Commands.{frame_of, target, serial_in};
 
 use field::field::{Field, ROOM};
 use field::hearing::Hearing;
-use frame::making::make;
+use frame::making::{LONGEST_FRAME, make};
 use protocol::command::Command;
 use record::{SERIAL_LENGTH, Serial};
-
-// How many bytes the longest frame has.
-const LONGEST: usize = 17;
 
 // What is heard, and the first bytes of what then stands in the reply buffer: a lone tag's serial number.
 #[derive(Clone, Copy)]
@@ -29,7 +27,7 @@ pub(crate) fn ask<F: Field>(field: &mut F, command: Command, parameters: &[u8], 
     ensures serial { result.serial ≡
         serial_in result.hearing (on_air (opening (frame_of command parameters.now)) row (F.tags field.old)) }
 {
-    let mut frame = [0; LONGEST];
+    let mut frame = [0; LONGEST_FRAME];
     let length = put_frame(command, parameters, &mut frame);
     transmit(field, &frame[..length], row)
 }
@@ -54,7 +52,7 @@ pub(crate) fn repeat<F: Field>(field: &mut F) -> Hearing
 // Makes the frame of a command with parameters that fit it, and tells its length.
 fn put_frame(command: Command, parameters: &[u8], frame: &mut [u8]) -> usize
     requires fits { length parameters.now + 3 ≡ length_of command }
-    requires room { 17 ≤ length frame.old }
+    requires room { longest_frame ≤ length frame.old }
     ensures inside { result ≤ length frame.old }
     ensures made { take result frame.new ≡ frame_of command parameters.now }
 {
