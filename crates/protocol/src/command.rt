@@ -136,6 +136,10 @@ pub const COMMANDS: [Entry; 14] = [
     },
 ];
 
+// The parameters of a SELECT of the chip's own tags, whose memory begins with EF 04: address 00, mask C0 for the first
+// two bytes, and a word of those two and six 00.
+pub const OWN: [u8; 10] = [0x00, 0xc0, 0xef, 0x04, 0, 0, 0, 0, 0, 0];
+
 impl Command {
     // The first byte of its frames.
     pub fn code(self) -> u8

@@ -1,4 +1,4 @@
-// The tags that the programs show, and parameters for them.
+// The tags that the programs show.
 ghost use Rattle.std.specs.Prelude.{◌≡◌, ◌++◌, IfOk};
 ghost use Rattle.record.specs.Records.{new_tag};
 ghost use Rattle.spelling.specs.Listings.{NumberedTags, SampleListed};
@@ -9,9 +9,6 @@ use std::alloc::{AllocError, Global};
 
 // The serial number of the tag that is shown on its own.
 pub const SERIAL: Serial = [0xef, 0x04, 0x02, 0x00, 0x00, 0x00, 0x00, 0x01];
-
-// What selects all tags whose memory begins with EF 04.
-pub const OWN: [u8; 10] = [0x00, 0xc0, 0xef, 0x04, 0x00, 0x00, 0x00, 0x00, 0x00, 0x00];
 
 // That of any other, by its last byte.
 pub fn numbered_serial(number: u8) -> Serial

@@ -1,11 +1,11 @@
 // Plays the life of one tag: prints what it is sent, what it replies, and its record after that.
 #![tactic(auto)]
 
-use protocol::command::Command;
+use protocol::command::{Command, OWN};
 use record::Tag;
 use reply::Reply;
 use spelling::hexadecimal::Hex;
-use spelling::sample::{OWN, sample_tag, to_tag};
+use spelling::sample::{sample_tag, to_tag};
 use spelling::sent::{framed, replied};
 use tag::hear;
 
