@@ -39,7 +39,7 @@ fn bench_over(table: &mut [Tag]) -> anyhow::Result<Bench<'_>> {
     Ok(bench)
 }
 
-// Generic, since taking a field out of its result gets no proof today where a bench is below.
+// Generic, since taking a field out of its result gets no proof where a bench is below.
 fn pair_of<L: Field + Drop, R: Field + Drop>(left: L, right: R) -> anyhow::Result<Pair<L, R>> {
     Pair::new(left, right).ok().context("too many places")
 }
