@@ -15,8 +15,8 @@ handed : (r : Result Slot Unsplit) (s : Stopped) → IsErr r → IsErrAnd r (λ 
 handed (Ok x) s a b = absurd (true≢false (sym a))
 handed (Err e) s a b = ap (λ (x : Unsplit). where_split (Err x)) (sym b)
 
-pub returns-then-is_empty-clause-rule : goal.returns-then-is_empty-clause-rule
-returns-then-is_empty-clause-rule g c p s =
+pub returns-then-not-is_recorded-clause-rule : goal.returns-then-not-is_recorded-clause-rule
+returns-then-not-is_recorded-clause-rule g c p s =
     (p, reaches_self g.F.Field (setting c.args.coins.now c.args.self.stand.budget c.args.lists.now) c.args.field.now p, s)
 
 pub returns-in_err-split-clause-rule : goal.returns-in_err-split-clause-rule
