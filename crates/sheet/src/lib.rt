@@ -13,11 +13,11 @@ mod paper;
 mod printing;
 mod room;
 
-use crate::front::Front;
 use crate::printing::print;
 use crate::room::Room;
 use protocol::refusal::Refusal;
 use record::Serial;
+use rows::list::Rows;
 use slot::ending::Report;
 use slot::row::SlotRow;
 
@@ -54,7 +54,7 @@ fn lay(
     ensures answer { answer_of result ≡ told (length (sheet slots.now serials.now report.now)) }
     ensures buffer { buffer.new ≡ leaving (made (sheet slots.now serials.now report.now)) buffer.old }
 {
-    let mut front = Front::new(buffer);
+    let mut front = Rows::new(buffer);
     print(&mut front, slots, serials, report)?;
-    Ok(front.filled())
+    Ok(front.len())
 }
