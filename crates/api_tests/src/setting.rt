@@ -2,11 +2,11 @@
 use bench::bench::Bench;
 use field::hearing::Hearing;
 use protocol::command::Command;
-use record::Tag;
+use record::{Serial, Tag};
 use rows::list::Rows;
 use slot::kinds::{ClashSlot, LoneSlot, Slot};
 use slot::lists::Lists;
-use slot::row::{Serial, SlotRow};
+use slot::row::SlotRow;
 use spelling::sample::numbered_tag;
 use std::process::Abort;
 

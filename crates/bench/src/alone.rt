@@ -30,7 +30,6 @@ impl Single {
         ensures tag { result ≡ tag_of self }
         ensures tags { tags_of self ≡ result ∷ [] }
     {
-        measure_tag(&self.tag);
         self.tag
     }
 }
@@ -56,7 +55,6 @@ impl Field for Single {
     }
 
     fn pass(&mut self, microseconds: u32) {
-        measure_tag(&self.tag);
         self.tag.pass(microseconds);
     }
 

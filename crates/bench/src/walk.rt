@@ -2,6 +2,7 @@
 ghost use Rattle.std.specs.Prelude.{◌≡◌, ◌≤◌, ◌++◌, Ok, length, drop};
 ghost use Rattle.std.specs.Option.{option_map};
 ghost use Rattle.frame.specs.Openings.{opening, seen};
+ghost use Rattle.reply.specs.Replies.{longest_reply};
 ghost use Rattle.tag.specs.Steps.{stepped};
 ghost use Rattle.field.specs.Airs.{only_reply, plainly, MayHear};
 ghost use Rattle.field.specs.Sends.{coin_at, stepped_all, on_air, gapped_all, padded, left_in, InPlace, Sized};
@@ -20,7 +21,7 @@ use tag::step;
 // Sends a frame to a table, with a buffer that has room for every reply.
 #[tactic(auto, using(field::proofs::Airs::may_hear_plainly, field::proofs::Airs::caught_plainly, field::proofs::Sizes::sized_stepped, field::proofs::Walks::stepped_in_place))]
 pub(crate) fn send_all(table: &mut [Tag], bytes: &[u8], row: u64, buffer: &mut [u8]) -> Hearing
-    requires { 258 ≤ length buffer.old }
+    requires { longest_reply ≤ length buffer.old }
     ensures tags { table.new ≡ stepped_all (opening bytes.now) row table.old }
     ensures hearing { MayHear (on_air (opening bytes.now) row table.old) result }
     ensures plain { result ≡ plainly (on_air (opening bytes.now) row table.old) }
@@ -57,9 +58,10 @@ impl Heard {
     // Writes the lone reply, if it is one, and 00 behind it.
     #[tactic(auto, using(field::proofs::Buffers::cleared_long))]
     fn write(self, table: &[Tag], buffer: &mut [u8])
-        requires { 258 ≤ length buffer.old }
+        requires { longest_reply ≤ length buffer.old }
         ensures { buffer.new
-            ≡ padded 258 (only_reply (said self.hearing self.speaker table.now)) ++ drop 258 buffer.old }
+            ≡ padded longest_reply (only_reply (said self.hearing self.speaker table.now))
+            ++ drop longest_reply buffer.old }
     {
         match (self.hearing, self.speaker) {
             (Hearing::Lone, Some((place, reply))) => deliver(table.get(place), reply, buffer),
@@ -71,9 +73,10 @@ impl Heard {
 // Writes the reply of a tag, and 00 behind it.
 #[tactic(auto, using(field::proofs::Buffers::cleared_long, field::proofs::Buffers::written_cleared))]
 fn deliver(speaker: Option<&Tag>, reply: Reply, buffer: &mut [u8])
-    requires { 258 ≤ length buffer.old }
+    requires { longest_reply ≤ length buffer.old }
     ensures { buffer.new
-        ≡ padded 258 (spoken (option_map (λ x. x.now) speaker.entry) reply) ++ drop 258 buffer.old }
+        ≡ padded longest_reply (spoken (option_map (λ x. x.now) speaker.entry) reply)
+        ++ drop longest_reply buffer.old }
 {
     clear(buffer);
     if let Some(tag) = speaker {

@@ -10,7 +10,7 @@ mod tags;
 use crate::frames::{answer_check, answer_make, answer_open};
 use crate::tags::Asked;
 use anyhow::Context;
-use record::{SIZE, Tag};
+use record::{MEMORY_LENGTH, Tag};
 use spelling::line::Line;
 use std::io::{BufRead, BufReader};
 
@@ -32,7 +32,7 @@ fn answer(asked: &mut Asked<'_>, line: &str) -> anyhow::Result<()> {
 fn run(rt: &HostRuntime) -> anyhow::Result<()> {
     let mut asked = Asked {
         rt,
-        tag: Tag::new([0; SIZE]),
+        tag: Tag::new([0; MEMORY_LENGTH]),
     };
     let lines = BufReader::new(rt.alloc(), rt.stdin())?.lines(rt.alloc());
     for (number, line) in (1..).zip(lines) {

@@ -3,11 +3,11 @@ use crate::QUESTIONS;
 use crate::showing::Answer;
 use anyhow::bail;
 use frame::opening::open;
-use record::{SIZE, State, Tag};
+use record::{MEMORY_LENGTH, Tag};
 use reply::Reply;
-use spelling::hexadecimal::{read_array, read_byte, read_bytes};
+use spelling::hexadecimal::{read_array, read_bytes};
 use spelling::sent::replied;
-use spelling::words::{no_word, read_bit, read_locks, read_mark, read_permission, word};
+use spelling::words::{no_word, read_bit, read_locks, read_parts, word};
 use tag::step;
 
 // A tag that is asked, and where its answers are printed.
@@ -35,7 +35,7 @@ impl Asked<'_> {
     fn put(&mut self, verb: &str, rest: &str) -> anyhow::Result<Option<Reply>> {
         // A match and no table of closures, since each verb has words of its own.
         match verb {
-            "new" => self.tag = Tag::new(read_array::<SIZE>(rest)?),
+            "new" => self.tag = Tag::new(read_array::<MEMORY_LENGTH>(rest)?),
             "locks" => self.tag.locks = read_locks(rest)?,
             "set" => self.set(rest)?,
             "step" => return self.send(rest),
@@ -45,18 +45,9 @@ impl Asked<'_> {
         Ok(None)
     }
 
-    // The five words change a tag that is there, where those of a table of tags make one: a type for the five would be
-    // taken apart at once in both.
     fn set(&mut self, rest: &str) -> anyhow::Result<()> {
         let mut words = rest.split_whitespace();
-        let tag = Tag {
-            state: word(words.next())?.parse::<State>()?,
-            identified: read_bit(word(words.next())?)?,
-            counter: read_byte(word(words.next())?)?,
-            mark: read_mark(word(words.next())?)?,
-            permission: read_permission(word(words.next())?)?,
-            ..self.tag
-        };
+        let tag = read_parts(&mut words, self.tag)?;
         no_word(words.next())?;
         self.tag = tag;
         Ok(())

@@ -7,6 +7,7 @@ use Rattle.protocol.specs.declared.refusal.Refusal.{Refusal}
 use Rattle.frame.specs.Openings.{Opening, opening}
 use Rattle.record.specs.declared.Tag.{Tag}
 use Rattle.record.specs.Gaps.{gapped}
+use Rattle.reply.specs.Replies.{longest_reply}
 use Rattle.tag.specs.Steps.{stepped, replied}
 use Rattle.field.specs.declared.hearing.Hearing.{Hearing}
 use Rattle.field.specs.Airs.{Air, silent, mixed, voice, caught}
@@ -39,7 +40,7 @@ gapped_all us tags = map (gapped us) tags
 
 -- A send with a reply buffer that is too short does nothing.
 abbrev pub is_short : ℕ → Bool
-is_short room = nat_lt room 258
+is_short room = nat_lt room longest_reply
 
 -- The tags after a send.
 abbrev pub sent_to : ℕ → List ℕ → ℕ → List Tag → List Tag
@@ -51,12 +52,12 @@ padded n bytes = bytes ++ replicate (n - length bytes) 0
 
 -- A buffer of which as much as a reply may take is set to 00.
 abbrev pub cleared : List ℕ → List ℕ
-cleared buffer = replicate (min (length buffer) 258) 0 ++ drop 258 buffer
+cleared buffer = replicate (min (length buffer) longest_reply) 0 ++ drop longest_reply buffer
 
--- A reply buffer after a send: what is heard and 00 behind it, 258 bytes in all, and then what was there. A refusal
--- changes nothing.
+-- A reply buffer after a send: what is heard and 00 behind it, as long as the longest reply in all, and then what was
+-- there. A refusal changes nothing.
 abbrev pub left_in : Result Hearing Refusal → Air → List ℕ → List ℕ
-left_in (Ok h) air buffer = padded 258 (caught h air) ++ drop 258 buffer
+left_in (Ok h) air buffer = padded longest_reply (caught h air) ++ drop longest_reply buffer
 left_in (Err e) air buffer = buffer
 
 -- Each tag's memory has its 56 bytes.

@@ -14,12 +14,13 @@ ghost use Rattle.field.specs.Sends.{InPlace, Sized};
 
 use crate::hearing::Hearing;
 use protocol::refusal::Refusal;
+use reply::LONGEST_REPLY;
 
 // The most places that a field has.
 pub const PLACES: usize = 64;
 
-// How many bytes a send writes into its reply buffer, and the longest reply has.
-pub const ROOM: usize = 258;
+// How many bytes a send writes into its reply buffer: as many as the longest reply has.
+pub const ROOM: usize = LONGEST_REPLY;
 
 // A field is anything that answers a reader. It means a list of tags; a tag's place is its position, from 0.
 pub trait Field {

@@ -49,14 +49,6 @@ impl Hearing {
     }
 }
 
-impl From<Hearing> for u8 {
-    ghost from_gives = { λ hearing number. number ≡ hearing_number hearing };
-
-    fn from(hearing: Hearing) -> u8 {
-        hearing.number()
-    }
-}
-
 impl fmt::Display for Hearing {
     ghost output = { λ h. Some (hearing_name h) };
 

@@ -82,7 +82,7 @@ impl<F: Lending> Asked<F> {
         ensures shown { (result.buffer ≡ self.new.buffer) × (result.tags ≡ tags_fingerprint (F.tags self.new.field)) }
         ensures same { OnErr result.heard (self.new ≡ self.old) }
     {
-        // A copy is lent, since a part of the buffer beside the field gets no proof today.
+        // A copy is lent, since a part of the buffer beside the field gets no proof.
         let mut buffer = self.buffer;
         let lent = &mut buffer[..sending.room];
         let heard = self.field.send(sending.frame.as_slice(), sending.row, lent);

@@ -6,37 +6,33 @@ ghost use Rattle.field_cases.specs.Listings.{SplitWords, SingleWords, SpeltRows}
 ghost use Rattle.field_cases.specs.Questions.{SpellsRow, first_word, behind_first, IsOneWord};
 
 use anyhow::bail;
-use record::{SIZE, State, Tag};
-use spelling::hexadecimal::{read_array, read_byte, read_bytes};
+use record::{MEMORY_LENGTH, Tag};
+use spelling::hexadecimal::{read_array, read_bytes};
 use spelling::misspelt::Misspelt;
-use spelling::words::{no_word, read_bit, read_locks, read_mark, read_permission, word};
+use spelling::words::{no_word, read_locks, read_parts, word};
 use std::alloc::Global;
 
 // The first bytes of a memory, whose others are 00.
-fn read_memory(heap: Global, text: &str) -> anyhow::Result<[u8; SIZE]> {
+fn read_memory(heap: Global, text: &str) -> anyhow::Result<[u8; MEMORY_LENGTH]> {
     let bytes = read_bytes(heap, text)?;
-    if bytes.len() > SIZE {
+    if bytes.len() > MEMORY_LENGTH {
         bail!("too many bytes for a memory");
     }
-    let mut memory = [0; SIZE];
+    let mut memory = [0; MEMORY_LENGTH];
     for (place, byte) in memory.iter_mut().zip(bytes.iter()) {
         *place = *byte;
     }
     Ok(memory)
 }
 
-// The first five words are those that set a tag in the questions about one. There they change a tag that is there, and
-// here they make one: a type for the five would be taken apart at once in both.
+// The words of a record, STATE FLAG COUNTER MARK PERMISSION LOCKS MEMORY.
 pub(crate) fn read_tag(heap: Global, text: &str) -> anyhow::Result<Tag> {
     let mut words = text.split_whitespace();
+    let parts = read_parts(&mut words, Tag::new([0; MEMORY_LENGTH]))?;
     let tag = Tag {
-        state: word(words.next())?.parse::<State>()?,
-        identified: read_bit(word(words.next())?)?,
-        counter: read_byte(word(words.next())?)?,
-        mark: read_mark(word(words.next())?)?,
-        permission: read_permission(word(words.next())?)?,
         locks: read_locks(word(words.next())?)?,
         memory: read_memory(heap, word(words.next())?)?,
+        ..parts
     };
     no_word(words.next())?;
     Ok(tag)

@@ -5,7 +5,7 @@ ghost use Rattle.field_cases.specs.Fingerprints.{blank, byte_taken, fingerprint,
 ghost use Rattle.field_cases.specs.Listings.{BytesTaken, TagsTaken};
 
 use field::lending::Lending;
-use record::{SIZE, Tag};
+use record::{MEMORY_LENGTH, Tag};
 use std::fmt;
 use std::marker::Model;
 
@@ -66,7 +66,7 @@ impl Fingerprint {
         bytes.iter().fold(self, |value, byte| value.with(*byte))
     }
 
-    fn with_locks(self, locks: &[bool; SIZE]) -> Fingerprint
+    fn with_locks(self, locks: &[bool; MEMORY_LENGTH]) -> Fingerprint
         ensures { result ≡ fold byte_taken self (map from_bool locks.now) }
     {
         locks

@@ -5,10 +5,11 @@ use anyhow::Context;
 use field::hearing::Hearing;
 use field::lending::Lending;
 use protocol::command::Command;
+use record::Serial;
 use rows::list::Rows;
 use slot::ending::Report;
 use slot::lists::Lists;
-use slot::row::{Serial, SlotRow};
+use slot::row::SlotRow;
 use spelling::words::word;
 use std::alloc::Global;
 use std::str;
@@ -98,7 +99,7 @@ impl Storage {
     fn of_slots(&self) -> Fingerprint {
         self.slots.iter().fold(Fingerprint::new(), |value, row| {
             value
-                .with(u8::from(row.command))
+                .with(row.command.code())
                 .with(row.hearing.number())
                 .with(row.waiting)
         })

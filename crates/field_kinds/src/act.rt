@@ -1,6 +1,5 @@
 // What is sent.
-use protocol::command::Command;
-use spelling::sample::OWN;
+use protocol::command::{Command, OWN};
 
 // A command with its parameters, and the coins that fall at it: the lowest bit is place 0's.
 pub(crate) type Act = (Command, &'static [u8], u64);

@@ -28,7 +28,7 @@ fn play<B: Field, P: Field, S: Field>(
     spoiler: &mut S,
 ) -> anyhow::Result<()> {
     for (command, parameters, row) in ACTS {
-        let frame = framed(rt.alloc(), u8::from(command), parameters)?;
+        let frame = framed(rt.alloc(), command.code(), parameters)?;
         println!(rt; "{command} with coins {row:04b}")?;
         tell(rt, "bench", bench, &frame, row)?;
         tell(rt, "pair", pair, &frame, row)?;

@@ -9,9 +9,10 @@ use field::field::ROOM;
 use field::lending::Lending;
 use history::call::Call;
 use history::desk::Desk;
+use record::Serial;
 use rows::list::Rows;
 use slot::lists::Lists;
-use slot::row::{BLANK, Serial, SlotRow};
+use slot::row::{BLANK, SlotRow};
 
 // SCROLL, which no tag answers before it is selected.
 const SCROLL: [u8; 3] = [0x09, 0x8f, 0x26];
@@ -49,28 +50,11 @@ impl Storage {
     // The desk of a sweep.
     fn desk<'a>(&'a mut self, coins: &'a [u64]) -> Desk<'a> {
         let Storage { slots, serials } = self;
-        Desk {
-            coins,
-            budget: BUDGET,
-            lists: Lists {
-                slots: Rows::new(slots),
-                serials: Rows::new(serials),
-            },
-            answer: None,
-        }
-    }
-}
-
-// The desk of a call that is no sweep.
-fn bare_desk<'a>() -> Desk<'a> {
-    Desk {
-        coins: &[],
-        budget: 0,
-        lists: Lists {
-            slots: Rows::new(&mut []),
-            serials: Rows::new(&mut []),
-        },
-        answer: None,
+        let lists = Lists {
+            slots: Rows::new(slots),
+            serials: Rows::new(serials),
+        };
+        Desk::new(coins, BUDGET, lists)
     }
 }
 
@@ -84,10 +68,10 @@ fn play_both<L: Lending, R: Lending>(
     let (mut right_first, mut right_last) = (Storage::new(), Storage::new());
     let first = left_first.desk(&[0b1010, 0b1100]);
     let last = left_last.desk(&[0b0011, 0b0101]);
-    let left_desks: &mut [Desk<'_>] = &mut [first, bare_desk(), bare_desk(), last];
+    let left_desks: &mut [Desk<'_>] = &mut [first, Desk::bare(), Desk::bare(), last];
     let first = right_first.desk(&[0b0110, 0b1010]);
     let last = right_last.desk(&[0b1001, 0b1010]);
-    let right_desks: &mut [Desk<'_>] = &mut [first, bare_desk(), bare_desk(), last];
+    let right_desks: &mut [Desk<'_>] = &mut [first, Desk::bare(), Desk::bare(), last];
     play(left, right, &CALLS, left_desks, right_desks)?;
     println!(rt; "a bench of four tags")?;
     show_all(rt, left_desks)?;

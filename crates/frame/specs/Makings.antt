@@ -20,6 +20,10 @@ for_command (Some c) code parameters room =
     if length parameters + 3 == length_of c then
     (if nat_lt room (length_of c) then unmade 5 else made (sealed (code ∷ parameters))) else unmade 4
 
+-- How many bytes the longest frame has.
+abbrev pub longest_frame : ℕ
+longest_frame = 17
+
 -- Making, in a buffer with some room: the refusals in the order in which they are tried, and else the frame.
 unfoldable pub making : ℕ → List ℕ → ℕ → Making
 making code parameters room = for_command (named code) code parameters room

@@ -10,6 +10,9 @@ use crate::writer::Writer;
 use protocol::command::{Command, Entry};
 use protocol::refusal::Refusal;
 
+// How many bytes the longest frame has.
+pub const LONGEST_FRAME: usize = 17;
+
 // Makes the frame of a code with its parameters, and tells its length. It opens as that code with those parameters.
 // Callers give the two as they have them, which may be no frame's; a `Draft` is made of those that are.
 #[tactic(auto, using(crate::proofs::Limits::bare_frames, crate::proofs::Listed::made_frames))]
@@ -59,7 +62,7 @@ impl<'a> Draft<'a> {
             return Err(Refusal::Buffer);
         }
         let mut writer = Writer::new(buffer);
-        writer.put(&[u8::from(self.command)])?;
+        writer.put(&[self.command.code()])?;
         writer.put(self.parameters)?;
         writer.seal()?;
         Ok(writer.filled())

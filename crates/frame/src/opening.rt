@@ -2,7 +2,7 @@
 ghost use Rattle.std.specs.Prelude.{◌≡◌, ◌≤◌, length, IsTrue, IfOk, IfErr, OnOk, slice_index};
 ghost use Rattle.frame.specs.Cases.{DamagedFrames};
 ghost use Rattle.frame.specs.Listings.{OpenedFrames, RefusedFrames};
-ghost use Rattle.frame.specs.Makings.{making, made};
+ghost use Rattle.frame.specs.Makings.{making, made, longest_frame};
 ghost use Rattle.frame.specs.Openings.{refused, opening, is_sealed, parameters_of};
 ghost use Rattle.frame.specs.Openings.{seen, bytes_seen, code_seen, request_seen};
 ghost use Rattle.frame.specs.Parts.{bytes_in, Within};
@@ -31,7 +31,7 @@ pub fn open(bytes: &[u8]) -> Result<Frame<'_>, Refusal>
     ensures within { IfOk result (λ f. Within bytes.now (parts_of (request_seen f))) }
     ensures remade { IfOk result (λ f.
         making (code_seen f) (bytes_in (parts_of (request_seen f))) (length bytes.now) ≡ made bytes.now) }
-    ensures longest { OnOk result (length bytes.now ≤ 17) }
+    ensures longest { OnOk result (length bytes.now ≤ longest_frame) }
     ensures damaged { DamagedFrames }
     ensures worked { OpenedFrames }
     ensures refused { RefusedFrames }
@@ -102,7 +102,7 @@ impl<'a> Sealed<'a> {
         ensures within { IfOk result (λ f. Within self.now.bytes.now (parts_of (request_seen f))) }
         ensures remade { IfOk result (λ f. making (code_seen f) (bytes_in (parts_of (request_seen f)))
             (length self.now.bytes.now) ≡ made self.now.bytes.now) }
-        ensures longest { OnOk result (length self.now.bytes.now ≤ 17) }
+        ensures longest { OnOk result (length self.now.bytes.now ≤ longest_frame) }
     {
         let entry = Entry::try_from(self.code)?;
         if self.bytes.len() != entry.length {

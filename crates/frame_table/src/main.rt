@@ -4,11 +4,12 @@
 ghost use Rattle.std.specs.Prelude.{◌≡◌, IfOk, vec_len};
 ghost use Rattle.protocol.specs.Commands.{layout, sizes};
 
+use frame::making::LONGEST_FRAME;
 use frame::opening::{Frame, open};
-use protocol::command::{COMMANDS, Command, Entry, PARAMETERS};
+use protocol::command::{COMMANDS, Command, Entry, OWN, PARAMETERS};
 use spelling::hexadecimal::Hex;
-use spelling::sample::{OWN, to_tag};
-use spelling::sent::{LONGEST_FRAME, framed};
+use spelling::sample::to_tag;
+use spelling::sent::framed;
 use std::alloc::{AllocError, Global};
 use std::fmt;
 

@@ -1,6 +1,10 @@
 // What one field has of its own for a call.
+ghost use Rattle.std.specs.Prelude.{◌≡◌, [], None};
+ghost use Rattle.rows.specs.Filling.{room_of};
+
 use field::hearing::Hearing;
 use protocol::refusal::Refusal;
+use rows::list::Rows;
 use slot::ending::Report;
 use slot::lists::Lists;
 
@@ -20,4 +24,36 @@ pub struct Desk<'a> {
     pub budget: u16,
     pub lists: Lists<'a>,
     pub answer: Option<Answer>,
+}
+
+impl<'a> Desk<'a> {
+    // A desk for any call.
+    pub fn new(coins: &'a [u64], budget: u16, lists: Lists<'a>) -> Desk<'a>
+        ensures coins { result.coins.now ≡ coins.now }
+        ensures budget { result.budget ≡ budget }
+        ensures lists { result.lists ≡ lists.entry }
+        ensures answer { result.answer ≡ None }
+    {
+        Desk {
+            coins,
+            budget,
+            lists,
+            answer: None,
+        }
+    }
+
+    // A desk for a call that is no sweep: no coins, no commands, and lists without room.
+    pub fn bare() -> Desk<'a>
+        ensures coins { result.coins.now ≡ [] }
+        ensures budget { result.budget ≡ 0 }
+        ensures slots { room_of result.lists.slots ≡ 0 }
+        ensures serials { room_of result.lists.serials ≡ 0 }
+        ensures answer { result.answer ≡ None }
+    {
+        let lists = Lists {
+            slots: Rows::new(&mut []),
+            serials: Rows::new(&mut []),
+        };
+        Desk::new(&[], 0, lists)
+    }
 }

@@ -2,6 +2,7 @@
 use Rattle.std.specs.Prelude.{◌≡◌, ℕ, ◌+◌, Bool, if◌then◌else◌, List, ◌++◌, length, drop, MatchBool, nat_le}
 use Rattle.frame.specs.Openings.{Opening}
 use Rattle.record.specs.declared.Tag.{Tag}
+use Rattle.reply.specs.Replies.{longest_reply}
 use Rattle.field.specs.declared.hearing.Hearing.{Hearing}
 use Rattle.field.specs.declared.hearing.Hearing.TheVariants.{Silence, Lone, Clash}
 use Rattle.field.specs.declared.field.Field.{Ghosts as Kind}
@@ -43,7 +44,7 @@ HeardOfBoth l r bytes row p q h =
 -- The reply buffer once the right is heard beside the left, whose reply stands in it: beside silence the right's reply takes
 -- its place, beside a silent right the left's stays, and of two sounding sides no reply is left.
 abbrev pub beside : Hearing → Hearing → Air → List ℕ → List ℕ
-beside Silence other air buffer = padded 258 (caught other air) ++ drop 258 buffer
+beside Silence other air buffer = padded longest_reply (caught other air) ++ drop longest_reply buffer
 beside Lone Silence air buffer = buffer
 beside Lone Lone air buffer = cleared buffer
 beside Lone Clash air buffer = cleared buffer

@@ -6,6 +6,7 @@ ghost use Rattle.field.specs.Promises.{AfterSend};
 ghost use Rattle.field.specs.Sends.{row_behind, on_air, Answered};
 ghost use Rattle.field.proofs.Joins.{few_both, sized_both};
 ghost use Rattle.layers.specs.Listings.{PairCases};
+ghost use Rattle.reply.specs.Replies.{longest_reply};
 ghost use Rattle.layers.specs.Pairs.{left_of, right_of, fits, paired, beside, HeardOfBoth, Split};
 
 use field::buffer::clear;
@@ -125,7 +126,7 @@ fn send_beside<R: Field>(
     left: Hearing,
     buffer: &mut [u8],
 ) -> Hearing
-    requires { 258 ≤ length buffer.old }
+    requires { longest_reply ≤ length buffer.old }
     ensures sent { AfterSend R.Field bytes.now row result right.old right.new }
     ensures buffer { buffer.new
         ≡ beside left result (on_air (opening bytes.now) row (R.tags right.old)) buffer.old }

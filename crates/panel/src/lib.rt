@@ -38,7 +38,7 @@ pub extern "C" fn nolbashi_open(frame: &[u8], shown: &mut [u8]) -> u8
     ensures worked { ShownFrames }
 {
     // A number, and a frame beside a buffer, since that is what C has.
-    show(frame, shown).err().map_or(0, u8::from)
+    show(frame, shown).err().map_or(0, Refusal::number)
 }
 
 // Shows what a frame holds, or tells why not. Frame and buffer are two parameters as in C.

@@ -136,11 +136,16 @@ pub const COMMANDS: [Entry; 14] = [
     },
 ];
 
-impl From<Command> for u8 {
-    ghost from_gives = { λ command code. code ≡ code_of command };
+// The parameters of a SELECT of the chip's own tags, whose memory begins with EF 04: address 00, mask C0 for the first
+// two bytes, and a word of those two and six 00.
+pub const OWN: [u8; 10] = [0x00, 0xc0, 0xef, 0x04, 0, 0, 0, 0, 0, 0];
 
-    fn from(command: Command) -> u8 {
-        command as u8
+impl Command {
+    // The first byte of its frames.
+    pub fn code(self) -> u8
+        ensures { result ≡ code_of self }
+    {
+        self as u8
     }
 }
 

@@ -39,14 +39,6 @@ impl Refusal {
     }
 }
 
-impl From<Refusal> for u8 {
-    ghost from_gives = { λ refusal number. number ≡ number_of refusal };
-
-    fn from(refusal: Refusal) -> u8 {
-        refusal.number()
-    }
-}
-
 impl fmt::Display for Refusal {
     ghost output = { λ refusal. Some (refusal_name refusal) };
 

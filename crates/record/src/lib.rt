@@ -16,12 +16,14 @@ pub mod names;
 pub mod unknown;
 
 // How many bytes a tag has: addresses 00 to 37.
-pub const SIZE: usize = 56;
+pub const MEMORY_LENGTH: usize = 56;
 
 // How many of them, from the first on, are the serial number.
-pub const SERIAL: usize = 8;
+pub const SERIAL_LENGTH: usize = 8;
 
-pub type Memory = [u8; SIZE];
+pub type Memory = [u8; MEMORY_LENGTH];
+
+pub type Serial = [u8; SERIAL_LENGTH];
 
 // What a tag is doing for the reader.
 #[derive(Clone, Copy, PartialEq, Eq, Debug)]
@@ -48,7 +50,7 @@ pub struct Tag {
     pub memory: Memory,
     // For each byte, whether it can no more be written. The locks lie beside the bytes and not with them, so that the
     // bytes can be lent in one piece.
-    pub locks: [bool; SIZE],
+    pub locks: [bool; MEMORY_LENGTH],
     pub state: State,
     // The ID flag.
     pub identified: bool,
@@ -98,7 +100,7 @@ impl Tag {
         ensures tag { result ≡ new_tag memory }
         ensures worked { NewTags }
     {
-        let mut locks = [false; SIZE];
+        let mut locks = [false; MEMORY_LENGTH];
         locks[0] = true;
         locks[1] = true;
         Tag {
@@ -115,7 +117,7 @@ impl Tag {
     pub fn serial(&self) -> &[u8]
         ensures { result.now ≡ serial_of self.now }
     {
-        &self.memory[..SERIAL]
+        &self.memory[..SERIAL_LENGTH]
     }
 
     // Whether these are the tag's serial number. In a crowd most differ in the last byte, which is cheap to compare:
@@ -123,8 +125,8 @@ impl Tag {
     pub fn has_serial(&self, serial: &[u8]) -> bool
         ensures { result ≡ bytes_eq (serial_of self.now) serial.now }
     {
-        serial.len() == SERIAL
-            && serial[SERIAL - 1] == self.memory[SERIAL - 1]
+        serial.len() == SERIAL_LENGTH
+            && serial[SERIAL_LENGTH - 1] == self.memory[SERIAL_LENGTH - 1]
             && self.serial() == serial
     }
 

@@ -1,18 +1,8 @@
-// Write marks as numbers, told and read.
-ghost use Rattle.std.specs.Prelude.{◌≡◌};
+// Write marks, read of numbers.
 ghost use Rattle.record.specs.Marks.{Marked};
-ghost use Rattle.record.specs.Records.{mark_number};
 
 use crate::WriteMark;
 use crate::unknown::Unknown;
-
-impl From<WriteMark> for u8 {
-    ghost from_gives = { λ mark number. number ≡ mark_number mark };
-
-    fn from(mark: WriteMark) -> u8 {
-        mark.number()
-    }
-}
 
 impl TryFrom<u8> for WriteMark {
     type Error = Unknown;

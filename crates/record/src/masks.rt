@@ -1,10 +1,10 @@
 // Masks, and what they select of the bytes from an address on. The two public calls take address, mask and bytes one by
-// one, as they always did; inside the three are one struct.
+// one, as a frame has them; inside the three are one struct.
 ghost use Rattle.std.specs.Prelude.{◌≡◌, ◌+◌, slice_index, slice_set};
 ghost use Rattle.record.specs.Listings.{Selections, Comparisons, Storings};
 ghost use Rattle.record.specs.Masks.{selects, agrees_at, matches, stored_at, stored};
 
-use crate::{SIZE, Tag, element};
+use crate::{MEMORY_LENGTH, Tag, element};
 
 impl Tag {
     // Whether the selected ones of eight bytes from an address on are those of a word.
@@ -43,7 +43,7 @@ impl Tag {
     fn put(&mut self, address: usize, byte: u8)
         ensures { self.new ≡ record self.old { memory = slice_set self.old.memory address byte } }
     {
-        if address < SIZE {
+        if address < MEMORY_LENGTH {
             self.memory[address] = byte;
         }
     }

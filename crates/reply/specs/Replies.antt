@@ -12,6 +12,10 @@ data_of t Serial = serial_of t
 data_of t (Memory a more) = bytes_from t.memory a (more + 1)
 data_of t (Status b) = b ∷ []
 
+-- How many bytes the longest reply has, with its check value.
+abbrev pub longest_reply : ℕ
+longest_reply = 258
+
 -- A reply as it is sent, or none.
 abbrev pub sounding : Option (List ℕ) → Option (List ℕ)
 sounding None = None

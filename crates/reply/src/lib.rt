@@ -8,11 +8,14 @@ ghost use Rattle.frame.specs.Writing.{Put};
 ghost use Rattle.protocol.specs.Refusals.{told, answer_of};
 ghost use Rattle.record.specs.Records.{bytes_from};
 ghost use Rattle.reply.specs.Listings.{Stretches, WrittenReplies};
-ghost use Rattle.reply.specs.Replies.{data_of};
+ghost use Rattle.reply.specs.Replies.{data_of, longest_reply};
 
 use frame::writer::Writer;
 use protocol::refusal::Refusal;
 use record::Tag;
+
+// How many bytes the longest reply has: 256 of memory and their check value.
+pub const LONGEST_REPLY: usize = 258;
 
 // What a reply says, of a tag's memory or of how a command went.
 #[derive(Clone, Copy, PartialEq, Eq, Debug)]
@@ -32,7 +35,7 @@ impl Reply {
         ensures answer { answer_of result ≡ answering (writing (sealed (data_of tag.now self)) (length buffer.old)) }
         ensures buffer { buffer.new ≡
             leaving (writing (sealed (data_of tag.now self)) (length buffer.old)) buffer.old }
-        ensures longest { length (sealed (data_of tag.now self)) ≤ 258 }
+        ensures longest { length (sealed (data_of tag.now self)) ≤ longest_reply }
         ensures memory { Stretches }
         ensures worked { WrittenReplies }
     {
@@ -57,7 +60,7 @@ impl Reply {
     // How long the reply is, with its check value.
     fn length(self, tag: &Tag) -> usize
         ensures length { result ≡ length (sealed (data_of tag.now self)) }
-        ensures longest { result ≤ 258 }
+        ensures longest { result ≤ longest_reply }
     {
         match self {
             Reply::Serial => tag.serial().len() + 2,

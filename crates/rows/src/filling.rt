@@ -1,5 +1,5 @@
 // Filling a list, row by row.
-ghost use Rattle.std.specs.Prelude.{◌≡◌, [], length, not, is_ok};
+ghost use Rattle.std.specs.Prelude.{◌≡◌, ◌+◌, ◌++◌, if◌then◌else◌, [], length, not, is_ok, nat_le};
 ghost use Rattle.rows.specs.Filling.{storage_of, rows_of, room_of, is_full, and_row, Behind};
 
 use crate::list::{Full, Rows};
@@ -67,5 +67,23 @@ impl<'a, T: Drop> Rows<'a, T> {
     {
         let Rows { storage, .. } = self;
         storage
+    }
+}
+
+impl<'a, T: Copy> Rows<'a, T> {
+    // Several rows more, or none of them where they do not all fit.
+    pub fn extend_from_slice(&mut self, rows: &[T]) -> Result<(), Full>
+        ensures result { is_ok result ≡ nat_le (length (rows_of self.old) + length rows.now) (room_of self.old) }
+        ensures rows { rows_of self.new ≡
+            (if is_ok result then rows_of self.old ++ rows.now else rows_of self.old) }
+        ensures behind { Behind self.old self.new }
+    {
+        let place = self.filled;
+        if self.storage.len() - place < rows.len() {
+            return Err(Full);
+        }
+        self.storage[place..place + rows.len()].copy_from_slice(rows);
+        self.filled = place + rows.len();
+        Ok(())
     }
 }

@@ -13,12 +13,13 @@ mod paper;
 mod printing;
 mod room;
 
-use crate::front::Front;
 use crate::printing::print;
 use crate::room::Room;
 use protocol::refusal::Refusal;
+use record::Serial;
+use rows::list::Rows;
 use slot::ending::Report;
-use slot::row::{Serial, SlotRow};
+use slot::row::SlotRow;
 
 // Writes the sheet at the front of a buffer, and tells its length.
 #[tactic(auto, using(crate::proofs::Readings::lines_read_back, crate::proofs::Listed::columns_listed, crate::proofs::Listed::sheets_printed, crate::proofs::Listed::sheet_rooms))]
@@ -53,7 +54,7 @@ fn lay(
     ensures answer { answer_of result ≡ told (length (sheet slots.now serials.now report.now)) }
     ensures buffer { buffer.new ≡ leaving (made (sheet slots.now serials.now report.now)) buffer.old }
 {
-    let mut front = Front::new(buffer);
+    let mut front = Rows::new(buffer);
     print(&mut front, slots, serials, report)?;
-    Ok(front.filled())
+    Ok(front.len())
 }

@@ -5,8 +5,9 @@ ghost use Rattle.sheet.specs.Sheets.{sheet, slot_line, slot_lines, serial_line, 
 
 use crate::paper::Paper;
 use protocol::refusal::Refusal;
+use record::Serial;
 use slot::ending::Report;
-use slot::row::{Serial, SlotRow};
+use slot::row::SlotRow;
 
 // How wide a column of numbers is, and one of bytes.
 const NUMBER_WIDTH: usize = 6;
@@ -42,7 +43,7 @@ fn print_slot<P: Paper>(paper: &mut P, number: u64, slot: &SlotRow) -> Result<()
 {
     let numbers = [
         number,
-        u64::from(u8::from(slot.command)),
+        u64::from(slot.command.code()),
         u64::from(slot.hearing.number()),
         u64::from(slot.waiting),
     ];

@@ -4,6 +4,7 @@ use Rattle.crc.specs.Check.{sealed}
 use Rattle.protocol.specs.declared.command.Command.{Command}
 use Rattle.protocol.specs.declared.command.Command.TheVariants.{Select, Query, Scroll, Repeat, Read}
 use Rattle.protocol.specs.Commands.{code_of}
+use Rattle.reply.specs.Replies.{longest_reply}
 use Rattle.field.specs.declared.hearing.Hearing.{Hearing}
 use Rattle.field.specs.Airs.{Air, caught}
 use Rattle.field.specs.Sends.{padded}
@@ -41,4 +42,4 @@ read serial = frame_of Read (target serial)
 
 -- The serial number in a reply: the first eight bytes of what stands in the reply buffer.
 unfoldable pub serial_in : Hearing → Air → List ℕ
-serial_in h air = take 8 (padded 258 (caught h air))
+serial_in h air = take 8 (padded longest_reply (caught h air))

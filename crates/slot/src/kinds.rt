@@ -4,8 +4,8 @@ ghost use Rattle.slot.specs.declared.kinds.Unsplit.TheVariants as unsplit;
 
 use crate::counts::Counts;
 use crate::ending::Stopped;
-use crate::row::Serial;
 use field::declined::Declined;
+use record::Serial;
 
 // Where a sweep stands: its budget of commands, how many groups wait, the place of the row of coins to draw next, and
 // what it has counted.

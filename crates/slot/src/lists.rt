@@ -1,5 +1,6 @@
 // The lists that a sweep fills.
-use crate::row::{Serial, SlotRow};
+use crate::row::SlotRow;
+use record::Serial;
 use rows::list::Rows;
 
 // Its slots, and the serial numbers of the tags that it has read.

@@ -17,7 +17,7 @@ use crate::lists::Lists;
 use crate::row::SlotRow;
 use field::field::Field;
 use field::hearing::Hearing;
-use protocol::command::Command;
+use protocol::command::{Command, OWN};
 
 impl Stand {
     pub(crate) fn is_spent(self) -> bool
@@ -57,10 +57,7 @@ impl Stand {
     }
 }
 
-// What SELECT asks for: address 00, mask C0, and the word EF 04 with six 00.
-const WANTED: [u8; 10] = [0x00, 0xc0, 0xef, 0x04, 0, 0, 0, 0, 0, 0];
-
-// Sends SELECT, and opens its slot.
+// Sends SELECT for the chip's own tags, and opens its slot.
 pub(crate) fn select<F: Field>(
     field: &mut F,
     stand: Stand,
@@ -69,7 +66,7 @@ pub(crate) fn select<F: Field>(
     ensures { MayOpen F.Field Command.Select (frame_of Command.Select wanted) 0 stand
         lists.old lists.new field.old field.new result }
 {
-    open_slot(field, Command::Select, &WANTED, 0, stand, lists)
+    open_slot(field, Command::Select, &OWN, 0, stand, lists)
 }
 
 // Sends QUERY with a row of coins, and opens its slot.

@@ -1,9 +1,6 @@
-// What is listed of a slot, and of a tag.
+// What is listed of a slot.
 use field::hearing::Hearing;
 use protocol::command::Command;
-use record::SERIAL;
-
-pub type Serial = [u8; SERIAL];
 
 // The command that opened the slot, what was heard, and how many groups then waited.
 #[derive(Clone, Copy, PartialEq, Eq, Debug)]

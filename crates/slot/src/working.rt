@@ -18,7 +18,6 @@ use crate::ending::{Stop, Stopped};
 use crate::kinds::{ClashSlot, GivenUp, Left, LoneSlot, SilentSlot, Slot, Stand, Unsplit};
 use crate::lists::Lists;
 use crate::opening::{coins_at, query, scroll, select};
-use crate::row::Serial;
 use field::declined::Declined;
 use field::field::Field;
 use field::hearing::Hearing;
@@ -26,6 +25,13 @@ use protocol::refusal::Refusal;
 
 // How many recorded rows of coins there can be.
 pub const MOST_ROWS: usize = 64;
+
+// Whether there are rows of coins to draw, and no more than there can be.
+pub fn is_recorded(coins: &[u64]) -> bool
+    ensures { result ≡ is_recorded coins.now }
+{
+    !coins.is_empty() && coins.len() <= MOST_ROWS
+}
 
 // Begins a sweep: empties the lists, and sends SELECT.
 pub fn open<F: Field>(field: &mut F, budget: u16, lists: &mut Lists<'_>) -> Result<Slot, Stopped>
@@ -66,7 +72,7 @@ impl ClashSlot {
         ensures serials { lists.new.serials ≡ lists.old.serials }
         ensures back { handed_back result self field.old field.new lists.old lists.new }
     {
-        if coins.is_empty() || coins.len() > MOST_ROWS {
+        if !is_recorded(coins) {
             return Err(Unsplit::Refused(Declined {
                 refusal: Refusal::Coins,
                 given: self,

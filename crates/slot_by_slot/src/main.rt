@@ -3,14 +3,12 @@
 
 use bench::bench::Bench;
 use field::field::Field;
-use field::hearing::Hearing;
-use protocol::command::Command;
-use record::{SIZE, Tag};
+use record::{MEMORY_LENGTH, Serial, Tag};
 use rows::list::Rows;
 use slot::counts::Counts;
 use slot::kinds::{Left, Slot, Unsplit};
 use slot::lists::Lists;
-use slot::row::{Serial, SlotRow};
+use slot::row::BLANK;
 use slot::working::open;
 use std::io;
 
@@ -20,15 +18,8 @@ const COINS: [u64; 1] = [2];
 // More slots than two tags take.
 const SLOTS: usize = 8;
 
-// What lies in the storage of the lists at first.
-const UNUSED: SlotRow = SlotRow {
-    command: Command::Select,
-    hearing: Hearing::Silence,
-    waiting: 0,
-};
-
 fn new_tag(number: u8) -> Tag {
-    let mut memory = [0; SIZE];
+    let mut memory = [0; MEMORY_LENGTH];
     memory[..8].copy_from_slice(&[0xef, 0x04, 0x02, 0, 0, 0, 0, number]);
     Tag::new(memory)
 }
@@ -80,7 +71,7 @@ fn print_lists(rt: &HostRuntime, lists: &Lists<'_>) -> io::Result<()> {
 
 fn main(rt: HostRuntime) -> io::Result<()> {
     let mut table = [new_tag(1), new_tag(2)];
-    let (mut slots, mut serials) = ([UNUSED; SLOTS], [[0; 8]; 2]);
+    let (mut slots, mut serials) = ([BLANK; SLOTS], [[0; 8]; 2]);
     let mut lists = Lists {
         slots: Rows::new(&mut slots),
         serials: Rows::new(&mut serials),

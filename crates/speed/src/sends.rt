@@ -5,9 +5,9 @@ use anyhow::Context;
 use bench::bench::Bench;
 use field::field::{Field, ROOM};
 use layers::pair::Pair;
-use protocol::command::Command;
+use protocol::command::{Command, OWN};
 use record::Tag;
-use spelling::sample::{OWN, numbered_tag};
+use spelling::sample::numbered_tag;
 use spelling::sent::framed;
 use std::alloc::Global;
 use std::array;
@@ -39,7 +39,7 @@ fn bench_over(table: &mut [Tag]) -> anyhow::Result<Bench<'_>> {
     Ok(bench)
 }
 
-// Generic, since taking a field out of its result gets no proof today where a bench is below.
+// Generic, since taking a field out of its result gets no proof where a bench is below.
 fn pair_of<L: Field + Drop, R: Field + Drop>(left: L, right: R) -> anyhow::Result<Pair<L, R>> {
     Pair::new(left, right).ok().context("too many places")
 }
@@ -52,7 +52,7 @@ fn send_all<F: Field>(
     sends: usize,
 ) -> anyhow::Result<Tally> {
     let mut buffer = [0; ROOM];
-    let select = framed(heap, u8::from(Command::Select), &OWN)?;
+    let select = framed(heap, Command::Select.code(), &OWN)?;
     field.send(select.as_slice(), 0, &mut buffer)?;
     let frames = load.frames(heap)?;
     let mut tally = Tally::default();

@@ -4,11 +4,12 @@ use Rattle.hex.specs.declared.error.FromHexError.{FromHexError}
 use Rattle.hex.specs.declared.error.FromHexError.TheVariants.{InvalidHexCharacter, OddLength, InvalidStringLength, OutOfMemory}
 use Rattle.protocol.specs.Names.{refusal_name}
 use Rattle.spelling.specs.declared.misspelt.Misspelt.{Misspelt}
-use Rattle.spelling.specs.declared.misspelt.Misspelt.TheVariants.{Bytes, Bit, Mark, Missing, Surplus, Refused, Memory}
+use Rattle.spelling.specs.declared.misspelt.Misspelt.TheVariants.{Bytes, Bit, State, Mark, Missing, Surplus, Refused, Memory}
 
 abbrev pub misspelt_text : Misspelt → List ℕ
 misspelt_text Bytes = codes "not the bytes that are wanted, in hexadecimal"
 misspelt_text Bit = codes "neither 0 nor 1"
+misspelt_text State = codes "no state"
 misspelt_text Mark = codes "no write mark"
 misspelt_text Missing = codes "a word is missing"
 misspelt_text Surplus = codes "a word too many"

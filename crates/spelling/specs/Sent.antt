@@ -1,7 +1,7 @@
 -- What is sent: frames, and the bytes of a reply or of none. Assumes nothing.
 use Rattle.std.specs.Prelude.{◌≡◌, ℕ, List, [], Option, Some, None}
 use Rattle.crc.specs.Check.{sealed}
-use Rattle.frame.specs.Makings.{making, made, unmade}
+use Rattle.frame.specs.Makings.{making, made, unmade, longest_frame}
 use Rattle.protocol.specs.Refusals.{number_of}
 use Rattle.protocol.specs.declared.refusal.Refusal.{Refusal}
 use Rattle.record.specs.declared.Tag.{Tag}
@@ -10,13 +10,13 @@ use Rattle.reply.specs.Replies.{data_of}
 use Rattle.spelling.specs.declared.misspelt.Misspelt.{Misspelt}
 use Rattle.spelling.specs.declared.misspelt.Misspelt.TheVariants.{Refused}
 
--- The frame of a code with its parameters, for which 17 bytes are room enough.
+-- The frame of a code with its parameters, for which there is room for the longest.
 abbrev pub IsFrame : ℕ → List ℕ → List ℕ → Type 0
-IsFrame code parameters frame = making code parameters 17 ≡ made frame
+IsFrame code parameters frame = making code parameters longest_frame ≡ made frame
 
 -- There is none, and an error says why.
 abbrev pub IsNoFrame : ℕ → List ℕ → Misspelt → Type 0
-IsNoFrame code parameters e = (refusal : Refusal) × (e ≡ Refused refusal) × (making code parameters 17 ≡ unmade (number_of refusal))
+IsNoFrame code parameters e = (refusal : Refusal) × (e ≡ Refused refusal) × (making code parameters longest_frame ≡ unmade (number_of refusal))
 
 abbrev pub reply_bytes : Tag → Option Reply → List ℕ
 reply_bytes t None = []

@@ -1,14 +1,27 @@
--- The words of a record: what texts spell a bit, a write mark, a permission and locks. Assumes nothing.
-use Rattle.std.specs.Prelude.{◌≡◌, ℕ, ◌/◌, ◌%◌, Bool, true, false, List, map, codes, Option, Some, None, slice_index}
+-- The words of a record: what texts spell a bit, a state, a write mark, a permission and locks, and five of them at once.
+-- Assumes nothing.
+use Rattle.std.specs.Prelude.{◌≡◌, ℕ, ◌/◌, ◌%◌, ◌⊎◌, Bool, true, false, List, map, codes, Option, Some, None, Result, Ok, Err, MatchOption, slice_index}
+use Rattle.std.specs.Borrow.{Bor}
 use Rattle.std.specs.List.{range_with_len}
+use Rattle.std.specs.Str.Iter.{split_whitespace_steps}
+use Rattle.std.specs.declared.str.SplitWhitespace.{SplitWhitespace}
+use Rattle.record.specs.declared.State.{State}
+use Rattle.record.specs.declared.Tag.{Tag}
 use Rattle.record.specs.declared.WriteMark.{WriteMark}
 use Rattle.record.specs.declared.WriteMark.TheVariants.{Clear, Fading, Fresh}
 use Rattle.record.specs.Masks.{selects}
+use Rattle.record.specs.Names.{state_name}
 use Rattle.spelling.specs.Hexadecimal.{SpellsArray, SpellsByte}
+use Rattle.spelling.specs.Misspellings.{Reads}
+use Rattle.spelling.specs.declared.misspelt.Misspelt.{Misspelt}
+use Rattle.spelling.specs.declared.misspelt.Misspelt.TheVariants as misspelt
 
 abbrev pub SpellsBit : List ℕ → Bool → Type 0
 SpellsBit text false = codes "0" ≡ text
 SpellsBit text true = codes "1" ≡ text
+
+abbrev pub SpellsState : List ℕ → State → Type 0
+SpellsState text state = state_name state ≡ text
 
 abbrev pub SpellsMark : List ℕ → WriteMark → Type 0
 SpellsMark text Clear = codes "0" ≡ text
@@ -26,3 +39,34 @@ locks_of bytes = map (λ address. selects (slice_index bytes (address / 8)) (add
 
 abbrev pub SpellsLocks : List ℕ → List Bool → Type 0
 SpellsLocks text locks = (bytes : List ℕ) × SpellsArray 7 text bytes × (locks ≡ locks_of bytes)
+
+-- The next word is read: what reading it gives, or that it is missing.
+abbrev pub ReadsNext : {A : Type 0} → (List ℕ → A → Type 0) → Misspelt → SplitWhitespace → SplitWhitespace → Result A Misspelt → Type 0
+ReadsNext Spells error before after r =
+    (next : Option (Bor (List ℕ))) × split_whitespace_steps before next after
+    × MatchOption next (r ≡ Err misspelt.Missing) (λ text. Reads Spells error text.now r)
+
+-- The next five words spell the state, the ID flag, the counter, the write mark and the permission of a record.
+pub record SpellsParts (before after : SplitWhitespace) (tag : Tag) : Type 0 where
+  pub behind_state : SplitWhitespace
+  pub behind_flag : SplitWhitespace
+  pub behind_counter : SplitWhitespace
+  pub behind_mark : SplitWhitespace
+  pub state : ReadsNext SpellsState misspelt.State before behind_state (Ok tag.state)
+  pub flag : ReadsNext SpellsBit misspelt.Bit behind_state behind_flag (Ok tag.identified)
+  pub counter : ReadsNext SpellsByte misspelt.Bytes behind_flag behind_counter (Ok tag.counter)
+  pub mark : ReadsNext SpellsMark misspelt.Mark behind_counter behind_mark (Ok tag.mark)
+  pub permission : ReadsNext SpellsPermission misspelt.Bytes behind_mark after (Ok tag.permission)
+
+-- The next word spells something of a kind, and behind it something holds.
+abbrev pub Goes : {A : Type 0} → (List ℕ → A → Type 0) → Misspelt → SplitWhitespace → (SplitWhitespace → Type 0) → Type 0
+Goes {A} Spells error before On = (value : A) × (after : SplitWhitespace) × ReadsNext Spells error before after (Ok value) × On after
+
+-- The first of the five words that is missing or spells nothing of its kind makes an error.
+unfoldable pub IsNoParts : SplitWhitespace → SplitWhitespace → Misspelt → Type 0
+IsNoParts before after e =
+    ReadsNext SpellsState misspelt.State before after (Err e) ⊎ Goes SpellsState misspelt.State before (λ b.
+    ReadsNext SpellsBit misspelt.Bit b after (Err e) ⊎ Goes SpellsBit misspelt.Bit b (λ c.
+    ReadsNext SpellsByte misspelt.Bytes c after (Err e) ⊎ Goes SpellsByte misspelt.Bytes c (λ d.
+    ReadsNext SpellsMark misspelt.Mark d after (Err e) ⊎ Goes SpellsMark misspelt.Mark d (λ p.
+    ReadsNext SpellsPermission misspelt.Bytes p after (Err e)))))

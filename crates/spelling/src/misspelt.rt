@@ -17,6 +17,8 @@ pub enum Misspelt {
     Bytes,
     // A text that is neither 0 nor 1.
     Bit,
+    // A text that names no state.
+    State,
     // A text that is no write mark.
     Mark,
     // No word where one is wanted.
@@ -40,6 +42,7 @@ impl fmt::Display for Misspelt {
         match self {
             Misspelt::Bytes => f.pad("not the bytes that are wanted, in hexadecimal"),
             Misspelt::Bit => f.pad("neither 0 nor 1"),
+            Misspelt::State => f.pad("no state"),
             Misspelt::Mark => f.pad("no write mark"),
             Misspelt::Missing => f.pad("a word is missing"),
             Misspelt::Surplus => f.pad("a word too many"),

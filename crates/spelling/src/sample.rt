@@ -1,20 +1,17 @@
-// The tags that the programs show, and parameters for them.
+// The tags that the programs show.
 ghost use Rattle.std.specs.Prelude.{◌≡◌, ◌++◌, IfOk};
 ghost use Rattle.record.specs.Records.{new_tag};
 ghost use Rattle.spelling.specs.Listings.{NumberedTags, SampleListed};
 ghost use Rattle.spelling.specs.Samples.{sample_serial, sample_memory, numbered_serial, numbered_memory};
 
-use record::{SIZE, Tag};
+use record::{MEMORY_LENGTH, Serial, Tag};
 use std::alloc::{AllocError, Global};
 
 // The serial number of the tag that is shown on its own.
-pub const SERIAL: [u8; 8] = [0xef, 0x04, 0x02, 0x00, 0x00, 0x00, 0x00, 0x01];
-
-// What selects all tags whose memory begins with EF 04.
-pub const OWN: [u8; 10] = [0x00, 0xc0, 0xef, 0x04, 0x00, 0x00, 0x00, 0x00, 0x00, 0x00];
+pub const SERIAL: Serial = [0xef, 0x04, 0x02, 0x00, 0x00, 0x00, 0x00, 0x01];
 
 // That of any other, by its last byte.
-pub fn numbered_serial(number: u8) -> [u8; 8]
+pub fn numbered_serial(number: u8) -> Serial
     ensures { result ≡ numbered_serial number }
 {
     let mut serial = SERIAL;
@@ -28,7 +25,7 @@ pub fn numbered_tag(number: u8) -> Tag
     ensures tag { result ≡ new_tag (numbered_memory number) }
     ensures worked { NumberedTags }
 {
-    let mut memory = [0; SIZE];
+    let mut memory = [0; MEMORY_LENGTH];
     memory[..SERIAL.len()].copy_from_slice(&numbered_serial(number));
     Tag::new(memory)
 }

@@ -5,16 +5,10 @@ ghost use Rattle.spelling.specs.Sent.{IsFrame, IsNoFrame, reply_bytes};
 ghost use Rattle.spelling.specs.declared.misspelt.Misspelt.TheVariants.{Memory};
 
 use crate::misspelt::Misspelt;
-use frame::making::make;
+use frame::making::{LONGEST_FRAME, make};
 use record::Tag;
-use reply::Reply;
+use reply::{LONGEST_REPLY, Reply};
 use std::alloc::Global;
-
-// The longest frame.
-pub const LONGEST_FRAME: usize = 17;
-
-// The longest reply: 256 bytes of memory and their check value.
-const LONGEST_REPLY: usize = 258;
 
 // The frame of a code with its parameters.
 #[tactic(auto, using(crate::proofs::Listed::frames_listed, crate::proofs::Listed::no_frames_listed))]

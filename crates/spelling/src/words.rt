@@ -1,17 +1,20 @@
 // The words of a record.
-ghost use Rattle.std.specs.Prelude.{◌≡◌, Ok, Err, Some, None, MatchOption};
+ghost use Rattle.std.specs.Prelude.{◌≡◌, Ok, Err, Some, None, MatchOption, IfOk, IfErr};
+ghost use Rattle.spelling.specs.Hexadecimal.{SpellsByte};
 ghost use Rattle.spelling.specs.Listings.{SpeltBits, SpeltMarks, SpeltPermissions, SpeltLocks};
 ghost use Rattle.spelling.specs.Misspellings.{Reads};
-ghost use Rattle.spelling.specs.Words.{SpellsBit, SpellsMark, SpellsPermission, SpellsLocks};
+ghost use Rattle.spelling.specs.Words.{SpellsBit, SpellsState, SpellsMark, SpellsPermission, SpellsLocks};
+ghost use Rattle.spelling.specs.Words.{ReadsNext, SpellsParts, IsNoParts};
 ghost use Rattle.spelling.specs.declared.misspelt.Misspelt.TheVariants.{Bytes, Bit, Mark, Missing, Surplus};
 
 use crate::hexadecimal::{read_array, read_byte};
 use crate::misspelt::Misspelt;
-use record::{SIZE, WriteMark};
+use record::{MEMORY_LENGTH, State, Tag, WriteMark};
 use std::array;
+use std::str::SplitWhitespace;
 
 // A lock bit for each of a tag's bytes.
-const LOCK_BYTES: usize = SIZE / 8;
+const LOCK_BYTES: usize = MEMORY_LENGTH / 8;
 
 // A word that has to be there.
 pub fn word(next: Option<&str>) -> Result<&str, Misspelt>
@@ -40,6 +43,12 @@ pub fn read_bit(text: &str) -> Result<bool, Misspelt>
     }
 }
 
+pub fn read_state(text: &str) -> Result<State, Misspelt>
+    ensures { Reads SpellsState Misspelt.State text.now result }
+{
+    text.parse::<State>().or(Err(Misspelt::State))
+}
+
 // By its one digit, since 01 and +1 are none of a mark's spellings.
 #[tactic(auto, using(crate::proofs::Listed::spelt_marks))]
 pub fn read_mark(text: &str) -> Result<WriteMark, Misspelt>
@@ -66,10 +75,59 @@ pub fn read_permission(text: &str) -> Result<Option<u8>, Misspelt>
 
 // The highest bit of the first byte is address 00.
 #[tactic(auto, using(crate::proofs::Listed::spelt_locks))]
-pub fn read_locks(text: &str) -> Result<[bool; SIZE], Misspelt>
+pub fn read_locks(text: &str) -> Result<[bool; MEMORY_LENGTH], Misspelt>
     ensures locks { Reads SpellsLocks Bytes text.now result }
     ensures worked { SpeltLocks }
 {
     let bytes = read_array::<LOCK_BYTES>(text)?;
     Ok(array::from_fn(|address| (bytes[address / 8] >> (7 - address % 8)) % 2 == 1))
+}
+
+// A record's state, ID flag, counter, write mark and permission, by a word each; memory and locks stay.
+#[tactic(auto, using(crate::proofs::Parts::no_state))]
+pub fn read_parts(words: &mut SplitWhitespace<'_>, tag: Tag) -> Result<Tag, Misspelt>
+    ensures ok { IfOk result (λ t. SpellsParts words.old words.new t) }
+    ensures memory { IfOk result (λ t. t.memory ≡ tag.memory) }
+    ensures locks { IfOk result (λ t. t.locks ≡ tag.locks) }
+    ensures err { IfErr result (λ e. IsNoParts words.old words.new e) }
+{
+    Ok(Tag {
+        state: next_state(words)?,
+        identified: next_bit(words)?,
+        counter: next_byte(words)?,
+        mark: next_mark(words)?,
+        permission: next_permission(words)?,
+        ..tag
+    })
+}
+
+// Each reader at the next word. One that took the reader as a closure would have to say of it all that these clauses do.
+fn next_state(words: &mut SplitWhitespace<'_>) -> Result<State, Misspelt>
+    ensures { ReadsNext SpellsState Misspelt.State words.old words.new result }
+{
+    read_state(word(words.next())?)
+}
+
+fn next_bit(words: &mut SplitWhitespace<'_>) -> Result<bool, Misspelt>
+    ensures { ReadsNext SpellsBit Bit words.old words.new result }
+{
+    read_bit(word(words.next())?)
+}
+
+fn next_byte(words: &mut SplitWhitespace<'_>) -> Result<u8, Misspelt>
+    ensures { ReadsNext SpellsByte Bytes words.old words.new result }
+{
+    read_byte(word(words.next())?)
+}
+
+fn next_mark(words: &mut SplitWhitespace<'_>) -> Result<WriteMark, Misspelt>
+    ensures { ReadsNext SpellsMark Mark words.old words.new result }
+{
+    read_mark(word(words.next())?)
+}
+
+fn next_permission(words: &mut SplitWhitespace<'_>) -> Result<Option<u8>, Misspelt>
+    ensures { ReadsNext SpellsPermission Bytes words.old words.new result }
+{
+    read_permission(word(words.next())?)
 }

@@ -4,6 +4,7 @@ use Rattle.std.proofs.lemmas.List.{length-append, drop-drop}
 use Rattle.record.specs.declared.Tag.{Tag}
 use Rattle.rows.specs.declared.list.Rows.{Rows}
 use Rattle.rows.specs.Filling.{rows_of, Behind}
+use Rattle.rows.proofs.Fillings.{behind_more}
 use Rattle.field.specs.declared.field.Field.{Ghosts as Kind}
 use Rattle.field.specs.declared.hearing.Hearing.{Hearing}
 use Rattle.slot.specs.declared.kinds.Stand.{Stand}
@@ -39,18 +40,6 @@ serials_played : (set : Setting) (hs : List Hearing) (p : Play) → length p.ser
 unfolding played went
 serials_played set [] p = omega arith
 serials_played set (h ∷ hs) p = omega (arith, serials_grow (next_deed set p) h p, serials_played set hs (done (next_deed set p) h p))
-
-behind_more : {T : Type 0} (a b c : Rows T) → Behind a b → Behind b c → length (rows_of b) ≤ length (rows_of c) → Behind a c
-behind_more a b c first second more =
-    let n : ℕ = length (rows_of b) in
-    let k : ℕ = length (rows_of c) - n in
-    let e : n + k ≡ length (rows_of c) = omega arith in
-    record {
-      storage = second.storage ∙ ap (λ (m : ℕ). drop m b.storage.now) (sym e) ∙ sym (drop-drop k n b.storage.now) ∙ ap (drop k) first.storage
-          ∙ drop-drop k n a.storage.now ∙ ap (λ (m : ℕ). drop m a.storage.now) e;
-      room = second.room ∙ first.room;
-      lender = second.lender ∙ first.lender;
-    }
 
 shown_slots : (w : Where) (l : Lists) (population : List Tag) (p : Play) → Shows w l population p → p.slots ≡ rows_of l.slots
 shown_slots (at_slot phase stand) l population p s = s.slots

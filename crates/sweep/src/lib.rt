@@ -15,7 +15,7 @@ use protocol::refusal::Refusal;
 use slot::ending::{End, Report};
 use slot::kinds::Unsplit;
 use slot::lists::Lists;
-use slot::working::MOST_ROWS;
+use slot::working::is_recorded;
 use working::work;
 
 // Sweeps a field: splits each clash and reads each lone tag, until the sweep is whole or stopped.
@@ -37,7 +37,7 @@ pub fn sweep<F: Field>(
     ensures worked { SweepCases }
     ensures fates { WorkedFates }
 {
-    if coins.is_empty() || coins.len() > MOST_ROWS {
+    if !is_recorded(coins) {
         return Err(Refusal::Coins);
     }
     match work(field, coins, budget, lists) {

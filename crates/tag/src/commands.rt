@@ -10,7 +10,7 @@ ghost use Rattle.tag.specs.Steps.{is_writable, written, locked};
 ghost use Rattle.tag.specs.Steps.{lock_status};
 
 use frame::request::Comparison;
-use record::{SIZE, State, Tag, WriteMark};
+use record::{MEMORY_LENGTH, State, Tag, WriteMark};
 use reply::Reply;
 
 // Is selected from now on, and answers at once.
@@ -163,7 +163,7 @@ pub(crate) fn lock(tag: &mut Tag, address: u8, permitted: Option<u8>) -> Option<
     ensures reply { result ≡ Some (Reply.Status 0x00) }
 {
     let place = usize::from(address);
-    if permitted == Some(address) && place < SIZE {
+    if permitted == Some(address) && place < MEMORY_LENGTH {
         tag.locks[place] = true;
         tag.mark = WriteMark::Fresh;
     } else {

@@ -1,11 +1,11 @@
 // Plays the life of one tag: prints what it is sent, what it replies, and its record after that.
 #![tactic(auto)]
 
-use protocol::command::Command;
+use protocol::command::{Command, OWN};
 use record::Tag;
 use reply::Reply;
 use spelling::hexadecimal::Hex;
-use spelling::sample::{OWN, sample_tag, to_tag};
+use spelling::sample::{sample_tag, to_tag};
 use spelling::sent::{framed, replied};
 use tag::hear;
 
@@ -81,12 +81,12 @@ impl Player<'_> {
     }
 
     fn send(&mut self, command: Command, parameters: &[u8]) -> anyhow::Result<()> {
-        let frame = framed(self.rt.alloc(), u8::from(command), parameters)?;
+        let frame = framed(self.rt.alloc(), command.code(), parameters)?;
         self.say(command.name(), frame.as_slice())
     }
 
     fn send_damaged(&mut self, command: Command) -> anyhow::Result<()> {
-        let mut frame = framed(self.rt.alloc(), u8::from(command), &[])?;
+        let mut frame = framed(self.rt.alloc(), command.code(), &[])?;
         if let Some(last) = frame.last_mut() {
             *last ^= 1;
         }

@@ -42,13 +42,13 @@ left_of c parameters b after code k l room e =
 pub returns-in-Ok-clause-made : goal.returns-in-Ok-clause-made
 returns-in-Ok-clause-made c =
     let answer : told c.in-Ok.length ≡ told (length (frame_of c.args.command c.args.parameters.now)) =
-    told_of (Ok c.in-Ok.length) c.args.command c.args.parameters.now c.args.frame.now c.from.result c.from.ensures c.requires.fits c.requires.room c.in-Ok.ensures.answer in
+    told_of (Ok c.in-Ok.length) c.args.command c.args.parameters.now c.args.frame.now c.code.result c.code.ensures c.requires.fits c.requires.room c.in-Ok.ensures.answer in
     told_frame c.in-Ok.length (frame_of c.args.command c.args.parameters.now) c.args.frame.now c.make.new.buffer answer
-    (left_of c.args.command c.args.parameters.now c.args.frame.now c.make.new.buffer c.from.result c.from.ensures c.requires.fits c.requires.room c.in-Ok.ensures.buffer)
+    (left_of c.args.command c.args.parameters.now c.args.frame.now c.make.new.buffer c.code.result c.code.ensures c.requires.fits c.requires.room c.in-Ok.ensures.buffer)
 
 pub returns-in-Err-clause-made : goal.returns-in-Err-clause-made
 returns-in-Err-clause-made c =
     absurd
     (let answer : denied (number_of c.in-Err.field-0) ≡ told (length (frame_of c.args.command c.args.parameters.now)) =
-    told_of (Err c.in-Err.field-0) c.args.command c.args.parameters.now c.args.frame.now c.from.result c.from.ensures c.requires.fits c.requires.room c.in-Err.ensures.answer in
+    told_of (Err c.in-Err.field-0) c.args.command c.args.parameters.now c.args.frame.now c.code.result c.code.ensures c.requires.fits c.requires.room c.in-Err.ensures.answer in
     let z : ◌≡◌ {A = ℕ} 0 1 = ap is_told answer in omega arith)

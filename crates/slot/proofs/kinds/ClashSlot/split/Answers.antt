@@ -5,8 +5,8 @@ use Rattle.slot.proofs.Handing.{handed}
 use Rattle.slot.proofs.Moves.{reaches_self}
 use Rattle.slot.proofs.kinds.ClashSlot.split.Goals as goal
 
-pub returns-then-is_empty-clause-rule : goal.returns-then-is_empty-clause-rule
-returns-then-is_empty-clause-rule g c p s =
+pub returns-then-not-is_recorded-clause-rule : goal.returns-then-not-is_recorded-clause-rule
+returns-then-not-is_recorded-clause-rule g c p s =
     (p, reaches_self g.F.Field (setting c.args.coins.now c.args.self.stand.budget c.args.lists.now) c.args.field.now p, s)
 
 pub returns-in_err-split-clause-rule : goal.returns-in_err-split-clause-rule
