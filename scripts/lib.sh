@@ -12,13 +12,13 @@ timed() {
     echo "ok: $what ($((SECONDS - start)) s)"
 }
 
-# Gets a command from Debian's packages where the machine lacks it, and says so. Where it cannot be got, says which package
-# is missing, and stops.
+# Gets a command from Debian's packages where the machine lacks it, and says so. Where it cannot be got, says which
+# package is missing, and stops.
 need() { # COMMAND PACKAGE
     command -v "$1" > /dev/null && return
     echo "the command $1 is missing: getting it from Debian's package $2"
     get "$2" && command -v "$1" > /dev/null && return
-    echo "FAILED: the package $2 is missing, which has the command $1, and could not be got: install it, and start anew" >&2
+    echo "FAILED: the package $2, which has the command $1, is missing and could not be got: install it" >&2
     exit 1
 }
 
