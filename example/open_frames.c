@@ -88,9 +88,9 @@ static int open_text(const char *text, size_t letters)
         fprintf(stderr, "not bytes in hexadecimal, two digits for each: %.*s\n", letters < 60 ? (int)letters : 60, text);
         return 1;
     }
-    uint16_t value = nolbashi_check_value(frame, length >= 2 ? length - 2 : 0);
+    uint16_t value = nolbashi_check_value_of(frame, length >= 2 ? length - 2 : 0);
     printf("%zu bytes, check value %04X: ", length, value);
-    uint8_t refusal = nolbashi_open(frame, length, shown, sizeof shown);
+    uint8_t refusal = nolbashi_open_frame(frame, length, shown, sizeof shown);
     if (refusal == NOLBASHI_OPENED) {
         print_frame(frame, shown);
     } else {

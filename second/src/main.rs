@@ -90,6 +90,10 @@ impl Race {
 
 fn main() -> ExitCode {
     let words: Vec<OsString> = env::args_os().skip(1).collect();
+    if asks_for_help(&words) {
+        println!("{USAGE}");
+        return ExitCode::SUCCESS;
+    }
     if let Some(race) = understand_race(&words) {
         println!("{}", race.run());
         return ExitCode::SUCCESS;
@@ -99,7 +103,7 @@ fn main() -> ExitCode {
     } else if let Some(job) = understand(&words) {
         run(&job)
     } else {
-        eprintln!("{USAGE}");
+        eprintln!("second: {}\n{USAGE}", fault(&words));
         return ExitCode::from(2);
     };
     match result {
@@ -108,6 +112,24 @@ fn main() -> ExitCode {
             eprintln!("second: {error}");
             ExitCode::FAILURE
         }
+    }
+}
+
+fn asks_for_help(words: &[OsString]) -> bool {
+    words.first().is_some_and(|word| word == "--help")
+}
+
+/// What is wrong with words that are no job.
+fn fault(words: &[OsString]) -> String {
+    let Some(verb) = words.first() else {
+        return "a word is missing".to_string();
+    };
+    let verb = verb.to_string_lossy();
+    match verb.as_ref() {
+        "frames" | "tags" | "fields" | "speed" | "listings" => {
+            format!("wrong words behind {verb}")
+        }
+        _ => format!("unknown word: {verb}"),
     }
 }
 
@@ -228,6 +250,31 @@ mod tests {
         let words: Vec<OsString> = line.split_whitespace().map(OsString::from).collect();
         let job = understand(&words).expect("the arguments are right");
         lines(&job).expect("the pages are right")
+    }
+
+    #[test]
+    fn help_is_the_first_word() {
+        let asks = |line: &str| {
+            let words: Vec<OsString> = line.split_whitespace().map(OsString::from).collect();
+            asks_for_help(&words)
+        };
+        assert!(asks("--help"));
+        assert!(asks("--help speed"));
+        assert!(!asks("speed --help"));
+        assert!(!asks("help"));
+        assert!(!asks(""));
+    }
+
+    #[test]
+    fn faults_are_told() {
+        let told = |line: &str| {
+            let words: Vec<OsString> = line.split_whitespace().map(OsString::from).collect();
+            fault(&words)
+        };
+        assert_eq!(told(""), "a word is missing");
+        assert_eq!(told("race query 7"), "unknown word: race");
+        assert_eq!(told("speed write 7"), "wrong words behind speed");
+        assert_eq!(told("frames"), "wrong words behind frames");
     }
 
     #[test]

@@ -295,7 +295,7 @@ mod tests {
             self.outcome.is_ok_and(|outcome| outcome.end.is_ok())
         }
 
-        /// The command that was not sent any more.
+        /// The command that would have come next.
         fn next(&self) -> Step {
             let Some(slot) = self.slots.last() else {
                 return Step::Slot(Name::Select);

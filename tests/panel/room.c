@@ -22,7 +22,7 @@ int main(void)
     for (size_t room = 0; room <= MOST; room++) {
         uint8_t shown[MOST];
         memset(shown, FILLER, sizeof shown);
-        uint8_t answer = nolbashi_open(SCROLL, sizeof SCROLL, shown, room);
+        uint8_t answer = nolbashi_open_frame(SCROLL, sizeof SCROLL, shown, room);
         size_t written = room < NOLBASHI_SHOWN ? 0 : NOLBASHI_SHOWN;
         if (answer != (room < NOLBASHI_SHOWN ? NOLBASHI_SHORT_BUFFER : NOLBASHI_OPENED)) {
             printf("room %zu: answer %u\n", room, answer);
@@ -35,7 +35,7 @@ int main(void)
     }
     uint8_t shown[NOLBASHI_SHOWN];
     memset(shown, FILLER, sizeof shown);
-    uint8_t answer = nolbashi_open(SCROLL, 2, shown, sizeof shown);
+    uint8_t answer = nolbashi_open_frame(SCROLL, 2, shown, sizeof shown);
     if (answer != NOLBASHI_STUB || !all_filler(shown, 0, sizeof shown)) {
         puts("a refusal changed something");
         return 1;

@@ -13,6 +13,18 @@ use anyhow::Context;
 use record::{MEMORY_LENGTH, Tag};
 use spelling::line::Line;
 use std::io::{BufRead, BufReader};
+use std::process::ExitCode;
+
+const USAGE: &str = "usage: chip_cases < QUESTIONS
+Answers questions about frames and about one tag, one to a line of standard input:
+    check BYTES
+    open BYTES
+    make CODE BYTES ROOM
+    new MEMORY
+    locks LOCKS
+    set STATE FLAG COUNTER MARK PERMISSION
+    step COIN FRAME
+    gap MICROSECONDS";
 
 // What is told of a line that is none of them.
 const QUESTIONS: &str =
@@ -41,6 +53,10 @@ fn run(rt: &HostRuntime) -> anyhow::Result<()> {
     Ok(())
 }
 
-fn main(rt: HostRuntime) -> anyhow::Result<()> {
-    run(&rt)
+fn main(rt: HostRuntime) -> anyhow::Result<ExitCode> {
+    if let Some(code) = usage::answer(&rt, USAGE)? {
+        return Ok(code);
+    }
+    run(&rt)?;
+    Ok(ExitCode::SUCCESS)
 }

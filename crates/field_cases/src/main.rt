@@ -13,7 +13,22 @@ mod showing;
 mod storage;
 
 use crate::playing::play_all;
+use std::process::ExitCode;
 
-fn main(rt: HostRuntime) -> anyhow::Result<()> {
-    play_all(&rt)
+const USAGE: &str = "usage: field_cases < QUESTIONS
+Answers questions about fields and sweeps of them, one to a line of standard input, in plays:
+    tag STATE FLAG COUNTER MARK PERMISSION LOCKS MEMORY
+    find SERIAL
+    field NESTING, which is bench PLACES, single, pair LEFT RIGHT or spoiler PERIOD BELOW
+    send ROW ROOM FRAME
+    gap MICROSECONDS
+    sweep BUDGET SLOTS SERIALS ROW...
+    end";
+
+fn main(rt: HostRuntime) -> anyhow::Result<ExitCode> {
+    if let Some(code) = usage::answer(&rt, USAGE)? {
+        return Ok(code);
+    }
+    play_all(&rt)?;
+    Ok(ExitCode::SUCCESS)
 }

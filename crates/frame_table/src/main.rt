@@ -12,6 +12,10 @@ use spelling::sample::to_tag;
 use spelling::sent::framed;
 use std::alloc::{AllocError, Global};
 use std::fmt;
+use std::process::ExitCode;
+
+const USAGE: &str = "usage: frame_table
+Prints the frame of each command, and where its parameters lie in it.";
 
 // A frame without parameters.
 const BARE: usize = 3;
@@ -65,12 +69,20 @@ fn print_row(rt: &HostRuntime, entry: Entry) -> anyhow::Result<()> {
     Ok(())
 }
 
-fn main(rt: HostRuntime) -> anyhow::Result<()> {
+fn run(rt: &HostRuntime) -> anyhow::Result<()> {
     println!(rt;
         "code command        length  bytes                                               parameters and their offsets"
     )?;
     for entry in COMMANDS {
-        print_row(&rt, entry)?;
+        print_row(rt, entry)?;
     }
     Ok(())
+}
+
+fn main(rt: HostRuntime) -> anyhow::Result<ExitCode> {
+    if let Some(code) = usage::answer(&rt, USAGE)? {
+        return Ok(code);
+    }
+    run(&rt)?;
+    Ok(ExitCode::SUCCESS)
 }

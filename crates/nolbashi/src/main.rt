@@ -8,7 +8,11 @@ use slot::lists::Lists;
 use slot::row::BLANK;
 use spelling::sample::numbered_tag;
 use std::io::Write;
+use std::process::ExitCode;
 use sweep::sweep;
+
+const USAGE: &str = "usage: nolbashi
+Sweeps a bench of two new tags, and prints the sheet.";
 
 // How many commands the sweep may send.
 const BUDGET: u16 = 100;
@@ -44,6 +48,10 @@ fn run(rt: &HostRuntime) -> anyhow::Result<()> {
     Ok(())
 }
 
-fn main(rt: HostRuntime) -> anyhow::Result<()> {
-    run(&rt)
+fn main(rt: HostRuntime) -> anyhow::Result<ExitCode> {
+    if let Some(code) = usage::answer(&rt, USAGE)? {
+        return Ok(code);
+    }
+    run(&rt)?;
+    Ok(ExitCode::SUCCESS)
 }

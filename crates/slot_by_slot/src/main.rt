@@ -11,6 +11,10 @@ use slot::lists::Lists;
 use slot::row::BLANK;
 use slot::working::open;
 use std::io;
+use std::process::ExitCode;
+
+const USAGE: &str = "usage: slot_by_slot
+Goes through a sweep of two tags slot by slot, and prints what is listed and counted.";
 
 // The row in which the second tag lets the first go before.
 const COINS: [u64; 1] = [2];
@@ -69,7 +73,7 @@ fn print_lists(rt: &HostRuntime, lists: &Lists<'_>) -> io::Result<()> {
     Ok(())
 }
 
-fn main(rt: HostRuntime) -> io::Result<()> {
+fn run(rt: &HostRuntime) -> io::Result<()> {
     let mut table = [new_tag(1), new_tag(2)];
     let (mut slots, mut serials) = ([BLANK; SLOTS], [[0; 8]; 2]);
     let mut lists = Lists {
@@ -79,7 +83,7 @@ fn main(rt: HostRuntime) -> io::Result<()> {
     let mut bench = Bench::new();
     let _ = bench.set_table(&mut table);
     let result = work(&mut bench, &mut lists);
-    print_lists(&rt, &lists)?;
+    print_lists(rt, &lists)?;
     match result {
         Ok(Some(counts)) => println!(rt;
             "whole: {} lone slots, {} silent, {} clash, {} commands",
@@ -87,4 +91,12 @@ fn main(rt: HostRuntime) -> io::Result<()> {
         ),
         Ok(None) | Err(_) => println!(rt; "not whole"),
     }
+}
+
+fn main(rt: HostRuntime) -> io::Result<ExitCode> {
+    if let Some(code) = usage::answer(&rt, USAGE)? {
+        return Ok(code);
+    }
+    run(&rt)?;
+    Ok(ExitCode::SUCCESS)
 }

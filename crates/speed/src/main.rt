@@ -1,44 +1,42 @@
-// Many sends to 64 tags, or whole sweeps of them, for a clock outside to time: `query SENDS`, `read SENDS` or
-// `sweeps SWEEPS` to a bench, `paired-query SENDS` or `paired-read SENDS` to a pair of two benches, one after the other. The
-// second implementation takes the words for a bench too, and prints the same lines.
+// Many sends to 64 tags, or whole sweeps of them, for a clock outside to time. The second implementation takes the
+// words for a bench too, and prints the same lines.
 #![tactic(auto)]
 
 mod load;
+mod race;
 mod random;
 mod sends;
 mod sweeps;
 mod tally;
 mod total;
 
-use crate::load::Load;
-use anyhow::bail;
+use crate::race::Race;
 use std::env;
+use std::process::ExitCode;
 
-const USAGE: &str =
-    "pairs of words are wanted: query, read, paired-query, paired-read or sweeps, and how many";
+const USAGE: &str = "usage: speed KIND NUMBER [KIND NUMBER]...
+Does so much work of each kind, one after the other, and prints what came of it:
+    query         so many QUERYs to a bench of 64 tags
+    read          so many READs of one of them after the other
+    paired-query  so many QUERYs to a pair of two benches of 32
+    paired-read   so many READs to such a pair
+    sweeps        so many sweeps of a bench of 64 new tags";
 
-fn race(rt: &HostRuntime, kind: &str, times: usize) -> anyhow::Result<()> {
-    match kind {
-        "query" => println!(rt; "{}", sends::run(rt.alloc(), Load::Query, times)?)?,
-        "read" => println!(rt; "{}", sends::run(rt.alloc(), Load::Read, times)?)?,
-        "paired-query" => println!(rt; "{}", sends::run_paired(rt.alloc(), Load::Query, times)?)?,
-        "paired-read" => println!(rt; "{}", sends::run_paired(rt.alloc(), Load::Read, times)?)?,
-        "sweeps" => println!(rt; "{}", sweeps::run(times)?)?,
-        _ => bail!("{USAGE}"),
+fn run(rt: &HostRuntime, words: &[String]) -> anyhow::Result<ExitCode> {
+    for pair in words.chunks(2) {
+        match Race::read(pair) {
+            Ok(race) => race.run(rt)?,
+            Err(fault) => return Ok(usage::refuse(rt, fault.problem, fault.word, USAGE)?),
+        }
     }
-    Ok(())
+    Ok(ExitCode::SUCCESS)
 }
 
-fn main(rt: HostRuntime) -> anyhow::Result<()> {
+fn main(rt: HostRuntime) -> anyhow::Result<ExitCode> {
     let words: Vec<String> = env::args(&rt)?.skip(1).collect(rt.alloc())?;
-    if words.is_empty() {
-        bail!("{USAGE}");
+    match words.as_slice() {
+        [] => Ok(usage::refuse(&rt, "missing words", "KIND NUMBER", USAGE)?),
+        [word, ..] if word.as_str() == "--help" => Ok(usage::help(&rt, USAGE)?),
+        words => run(&rt, words),
     }
-    for pair in words.as_slice().chunks(2) {
-        let [kind, times] = pair else {
-            bail!("{USAGE}");
-        };
-        race(&rt, kind.as_str(), times.as_str().parse::<usize>()?)?;
-    }
-    Ok(())
 }

@@ -7,7 +7,11 @@ use reply::Reply;
 use spelling::hexadecimal::Hex;
 use spelling::sample::{sample_tag, to_tag};
 use spelling::sent::{framed, replied};
+use std::process::ExitCode;
 use tag::hear;
+
+const USAGE: &str = "usage: tag_life
+Plays the life of one tag: prints what it is sent, what it replies, and its record after that.";
 
 // How this tag's coin always falls.
 const COIN: bool = true;
@@ -135,6 +139,10 @@ fn run(rt: &HostRuntime) -> anyhow::Result<()> {
     Ok(())
 }
 
-fn main(rt: HostRuntime) -> anyhow::Result<()> {
-    run(&rt)
+fn main(rt: HostRuntime) -> anyhow::Result<ExitCode> {
+    if let Some(code) = usage::answer(&rt, USAGE)? {
+        return Ok(code);
+    }
+    run(&rt)?;
+    Ok(ExitCode::SUCCESS)
 }
