@@ -1,4 +1,4 @@
-// A field that counts what is sent to it.
+// A kind of field that counts what is sent to it.
 ghost use Rattle.std.specs.Prelude.{◌≡◌};
 ghost use Rattle.field.specs.Sends.{Answered};
 ghost use Rattle.first_field.specs.Counting.{field_of, sends_of, HandsOn};
@@ -7,14 +7,15 @@ use field::field::Field;
 use field::hearing::Hearing;
 use protocol::refusal::Refusal;
 
+// A layer over a field of any kind: it hands on what it is sent, and counts it.
 #[derive(Drop)]
 pub struct Counted<F> {
     field: F,
-    // How many sends it has handed on.
     sends: u64,
 }
 
 impl<F: Field> Counted<F> {
+    // The field, with nothing counted yet.
     pub fn new(field: F) -> Counted<F>
         ensures field { field_of result ≡ field }
         ensures sends { sends_of result ≡ 0 }
@@ -39,17 +40,17 @@ impl<F: Field> Counted<F> {
 }
 
 impl<F: Field> Field for Counted<F> {
-    ghost tags = { λ c. F.Field.tags (field_of c) };
+    ghost tags = { λ c. F.tags (field_of c) };
 
-    ghost few = { λ c. F.Field.few (field_of c) };
+    ghost few = { λ c. F.few (field_of c) };
 
-    ghost sized = { λ c. F.Field.sized (field_of c) };
+    ghost sized = { λ c. F.sized (field_of c) };
 
-    ghost faithful = { λ c. F.Field.faithful (field_of c) };
+    ghost faithful = { λ c. F.faithful (field_of c) };
 
     ghost hears = { λ c bytes row answer d. Answered answer (HandsOn F.Field bytes row c d) c d };
 
-    ghost waits = { λ c us d. F.Field.waits (field_of c) us (field_of d) × (sends_of d ≡ sends_of c) };
+    ghost waits = { λ c us d. F.waits (field_of c) us (field_of d) × (sends_of d ≡ sends_of c) };
 
     fn places(&self) -> usize {
         self.field.places()
