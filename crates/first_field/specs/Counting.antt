@@ -17,6 +17,7 @@ abbrev pub one_more : ℕ → ℕ
 one_more sends = min (sends + 1) (2 ^ 64 - 1)
 
 -- What a counted field does with a frame: it hands it on, hears what is heard below, and counts it.
-pub record HandsOn {F : Type 0} (below : Kind F) (frame : List ℕ) (row : ℕ) (before after : Counted F) (heard : Hearing) : Type 0 where
+pub record HandsOn {F : Type 0} (below : Kind F) (frame : List ℕ) (row : ℕ)
+    (before after : Counted F) (heard : Hearing) : Type 0 where
   pub sent_below : AfterSend below frame row heard (field_of before) (field_of after)
   pub counted : sends_of after ≡ one_more (sends_of before)
