@@ -1,6 +1,7 @@
 -- What a send and a gap do to a list of tags, whatever field they are in. Assumes nothing.
 use Rattle.std.specs.Prelude.{◌≡◌, ℕ, ◌-◌, ◌/◌, ◌%◌, ◌^◌, Bool, if◌then◌else◌, ◌∷◌, ◌++◌, ◌==◌}
 use Rattle.std.specs.Prelude.{List, [], map, min, length, drop, replicate, All, Ok, Err, Result, nat_lt}
+use Rattle.std.specs.Int.{bit_at}
 use Rattle.std.specs.Option.{option_map}
 use Rattle.std.specs.List.{slice_get}
 use Rattle.protocol.specs.declared.refusal.Refusal.{Refusal}
@@ -18,7 +19,7 @@ first_coin row = row % 2 == 1
 
 -- The coin of any place.
 abbrev pub coin_at : ℕ → ℕ → Bool
-coin_at row place = row / 2 ^ place % 2 == 1
+coin_at row place = bit_at row place == 1
 
 -- The row for what stands behind some places.
 abbrev pub row_behind : ℕ → ℕ → ℕ

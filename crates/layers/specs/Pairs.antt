@@ -1,14 +1,14 @@
 -- Two fields as one: the places of the left first. Assumes nothing.
-use Rattle.std.specs.Prelude.{◌≡◌, ℕ, ◌+◌, Bool, if◌then◌else◌, List, ◌++◌, length, drop, MatchBool, nat_le}
+use Rattle.std.specs.Prelude.{◌≡◌, ℕ, ◌+◌, Bool, if◌then◌else◌, List, ◌++◌, length, Ok, MatchBool, nat_le}
 use Rattle.frame.specs.Openings.{Opening}
 use Rattle.record.specs.declared.Tag.{Tag}
 use Rattle.reply.specs.Replies.{longest_reply}
 use Rattle.field.specs.declared.hearing.Hearing.{Hearing}
 use Rattle.field.specs.declared.hearing.Hearing.TheVariants.{Silence, Lone, Clash}
 use Rattle.field.specs.declared.field.Field.{Ghosts as Kind}
-use Rattle.field.specs.Airs.{Air, mixed, together, caught}
+use Rattle.field.specs.Airs.{Air, mixed, together}
 use Rattle.field.specs.Promises.{AfterSend}
-use Rattle.field.specs.Sends.{row_behind, on_air, gapped_all, sent_to, padded, cleared}
+use Rattle.field.specs.Sends.{row_behind, on_air, gapped_all, sent_to, cleared, left_in}
 use Rattle.layers.specs.declared.pair.Pair.{Pair}
 
 -- The sides of a pair.
@@ -44,7 +44,11 @@ HeardOfBoth l r bytes row p q h =
 -- The reply buffer once the right is heard beside the left, whose reply stands in it: beside silence the right's reply takes
 -- its place, beside a silent right the left's stays, and of two sounding sides no reply is left.
 abbrev pub beside : Hearing → Hearing → Air → List ℕ → List ℕ
+<<<<<<< HEAD
 beside Silence other air buffer = padded longest_reply (caught other air) ++ drop longest_reply buffer
+=======
+beside Silence other air buffer = left_in (Ok other) air buffer
+>>>>>>> e225c02cf4a6827ddaf10c8a8cf21c6e88b60a33
 beside Lone Silence air buffer = buffer
 beside Lone Lone air buffer = cleared buffer
 beside Lone Clash air buffer = cleared buffer

@@ -1,11 +1,12 @@
 -- Masks, and what they select of the bytes from an address on. Assumes nothing.
-use Rattle.std.specs.Prelude.{ℕ, zero, suc, ◌+◌, ◌-◌, ◌/◌, ◌%◌, ◌^◌, Bool, true, if◌then◌else◌, ◌==◌}
+use Rattle.std.specs.Prelude.{ℕ, zero, suc, ◌+◌, ◌-◌, Bool, true, if◌then◌else◌, ◌==◌}
 use Rattle.std.specs.Prelude.{List, slice_index, slice_set}
+use Rattle.std.specs.Int.{bit_at}
 use Rattle.std.specs.List.{list_all, range_with_len}
 
 -- Whether a mask selects the byte at some place, from 0: its bits stand for the places, the highest for the first.
 abbrev pub selects : ℕ → ℕ → Bool
-selects mask i = mask / 2 ^ (7 - i) % 2 == 1
+selects mask i = bit_at mask (7 - i) == 1
 
 -- Whether the byte at a place from an address on is the wanted one, or not selected.
 abbrev pub agrees_at : List ℕ → ℕ → ℕ → List ℕ → ℕ → Bool

@@ -6,7 +6,7 @@ use Rattle.record.specs.declared.Tag.{Tag}
 use Rattle.rows.specs.Filling.{rows_of, room_of, Behind}
 use Rattle.field.specs.declared.field.Field.{Ghosts as Kind}
 use Rattle.protocol.specs.declared.command.Command.{Command}
-use Rattle.protocol.specs.declared.command.Command.TheVariants.{Query, Scroll}
+use Rattle.protocol.specs.declared.command.Command.TheVariants.{Scroll}
 use Rattle.slot.specs.declared.row.SlotRow.{SlotRow}
 use Rattle.slot.specs.declared.counts.Counts.{Counts}
 use Rattle.slot.specs.declared.ending.Stopped.{Stopped}
@@ -137,13 +137,9 @@ counts_in (at_slot phase stand) = stand.counts
 counts_in (over number counts) = counts
 
 -- A slot is counted as it opens, by what is heard then. Nothing else changes those counts.
-abbrev pub counts_opened : Counts → Result Slot Stopped → Counts
+abbrev pub counts_opened : {E : Type 0} → Counts → Result Slot E → Counts
 counts_opened c (Ok s) = counted (heard_in s) c
-counts_opened c (Err s) = c
-
-abbrev pub counts_split : Counts → Result Slot Unsplit → Counts
-counts_split c (Ok s) = counted (heard_in s) c
-counts_split c (Err e) = c
+counts_opened c (Err e) = c
 
 abbrev pub counts_left : Counts → Result Left Stopped → Counts
 counts_left c (Ok (left.Next s)) = counted (heard_in s) c
@@ -162,13 +158,9 @@ counts_read c commands = record c { commands = commands }
 abbrev pub row_of : Command → Slot → SlotRow
 row_of command s = record { command = command; hearing = heard_in s; waiting = (stand_of s).waiting }
 
-abbrev pub rows_opened : Command → List SlotRow → Result Slot Stopped → List SlotRow
+abbrev pub rows_opened : {E : Type 0} → Command → List SlotRow → Result Slot E → List SlotRow
 rows_opened command rows (Ok s) = rows ++ row_of command s ∷ []
-rows_opened command rows (Err s) = rows
-
-abbrev pub rows_split : List SlotRow → Result Slot Unsplit → List SlotRow
-rows_split rows (Ok s) = rows ++ row_of Query s ∷ []
-rows_split rows (Err e) = rows
+rows_opened command rows (Err e) = rows
 
 abbrev pub rows_left : List SlotRow → Result Left Stopped → List SlotRow
 rows_left rows (Ok (left.Next s)) = rows ++ row_of Scroll s ∷ []

@@ -5,8 +5,8 @@ ghost use Rattle.protocol.specs.declared.command.Command.TheVariants as command;
 ghost use Rattle.rows.specs.Filling.{rows_of, is_full, and_row};
 ghost use Rattle.slot.specs.Going.{setting, at_slot, at_silent, at_lone, at_clash, serial_heard, budget_in, counts_in};
 ghost use Rattle.slot.specs.Going.{where_opened, where_split, where_read, where_left, where_closed, Begins, Leads};
-ghost use Rattle.slot.specs.Going.{counts_opened, counts_split, counts_left, counts_closed, counts_read, no_counts};
-ghost use Rattle.slot.specs.Going.{rows_opened, rows_split, rows_left, BothBehind, IsWithin, handed_back, is_recorded};
+ghost use Rattle.slot.specs.Going.{counts_opened, counts_left, counts_closed, counts_read, no_counts};
+ghost use Rattle.slot.specs.Going.{rows_opened, rows_left, BothBehind, IsWithin, handed_back, is_recorded};
 ghost use Rattle.slot.specs.Going.{at_unread, refused_by};
 ghost use Rattle.slot.specs.Countings.{stop_number};
 ghost use Rattle.slot.specs.Rules.{in_silence, in_clash, in_reading};
@@ -66,9 +66,9 @@ impl ClashSlot {
         ensures rule { Leads F.Field coins.now
             (at_clash self) (where_split result) field.old field.new lists.old lists.new }
         ensures behind { BothBehind lists.old lists.new }
-        ensures counts { counts_in (where_split result) ≡ counts_split (counts_in (at_clash self)) result }
+        ensures counts { counts_in (where_split result) ≡ counts_opened (counts_in (at_clash self)) result }
         ensures within { OnOk result (IsWithin (budget_in (at_clash self)) (where_split result)) }
-        ensures slots { rows_of lists.new.slots ≡ rows_split (rows_of lists.old.slots) result }
+        ensures slots { rows_of lists.new.slots ≡ rows_opened command.Query (rows_of lists.old.slots) result }
         ensures serials { lists.new.serials ≡ lists.old.serials }
         ensures back { handed_back result self field.old field.new lists.old lists.new }
     {

@@ -1,5 +1,5 @@
 -- What a sweep's frames ask of tags, and which serial number stands in a reply. Assumes nothing.
-use Rattle.std.proofs.Common.{◌≡◌, ℕ, ◌+◌, ◌-◌, List, [], ◌∷◌, ◌++◌, length, get_or, take, drop, replicate, Some, sym, refl, ap, ◌∙◌, ap₂, arith}
+use Rattle.std.proofs.Common.{◌≡◌, ℕ, ◌+◌, ◌-◌, List, [], ◌∷◌, ◌++◌, length, get_or, take, drop, replicate, Some, refl, ap, ◌∙◌, ap₂, arith}
 use Rattle.std.proofs.lemmas.List.{take_at, drop_at, length-append, append_assoc}
 use Rattle.crc.specs.Check.{moved_up, bit_taken, bits, byte_taken, sent, check_value, sealed}
 use Rattle.protocol.specs.declared.command.Command.TheVariants.{Read}

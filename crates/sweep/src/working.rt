@@ -1,5 +1,5 @@
 // Going through a sweep, slot by slot.
-ghost use Rattle.std.specs.Prelude.{◌≡◌, ◌≤◌, length, IsTrue, IsFalse, OnOk};
+ghost use Rattle.std.specs.Prelude.{◌≤◌, length, IsTrue, IsFalse, OnOk};
 ghost use Rattle.rows.specs.Filling.{rows_of};
 ghost use Rattle.slot.specs.Going.{setting, at_open, Begins, Leads, BothBehind, IsWithin, counts_in, is_recorded};
 ghost use Rattle.slot.specs.Slots.{stand_of};

@@ -1,4 +1,4 @@
-use Rattle.std.proofs.Common.{◌≡◌, ◌<◌, ◌≤◌, List, [], ◌∷◌, length, Ok, Err, sym, refl, ap, ◌∙◌, subst, arith}
+use Rattle.std.proofs.Common.{◌≡◌, ◌<◌, ◌≤◌, List, [], ◌∷◌, length, Ok, Err, sym, refl, ◌∙◌, subst, arith}
 use Rattle.protocol.specs.declared.command.Command.TheVariants.{Select}
 use Rattle.rows.specs.Filling.{rows_of}
 use Rattle.field.specs.declared.hearing.Hearing.{Hearing}
