@@ -44,11 +44,7 @@ HeardOfBoth l r bytes row p q h =
 -- The reply buffer once the right is heard beside the left, whose reply stands in it: beside silence the right's reply takes
 -- its place, beside a silent right the left's stays, and of two sounding sides no reply is left.
 abbrev pub beside : Hearing → Hearing → Air → List ℕ → List ℕ
-<<<<<<< HEAD
-beside Silence other air buffer = padded longest_reply (caught other air) ++ drop longest_reply buffer
-=======
 beside Silence other air buffer = left_in (Ok other) air buffer
->>>>>>> e225c02cf4a6827ddaf10c8a8cf21c6e88b60a33
 beside Lone Silence air buffer = buffer
 beside Lone Lone air buffer = cleared buffer
 beside Lone Clash air buffer = cleared buffer
