@@ -2,7 +2,6 @@
 use Rattle.std.specs.Prelude.{◌≡◌, ℕ, ◌+◌, Bool, if◌then◌else◌, List, ◌++◌, length, Ok, MatchBool, nat_le}
 use Rattle.frame.specs.Openings.{Opening}
 use Rattle.record.specs.declared.Tag.{Tag}
-use Rattle.reply.specs.Replies.{longest_reply}
 use Rattle.field.specs.declared.hearing.Hearing.{Hearing}
 use Rattle.field.specs.declared.hearing.Hearing.TheVariants.{Silence, Lone, Clash}
 use Rattle.field.specs.declared.field.Field.{Ghosts as Kind}
