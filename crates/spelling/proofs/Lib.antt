@@ -1,4 +1,3 @@
 pub mod Capitals
-pub mod Listed
 pub mod Made
 pub mod Shown
