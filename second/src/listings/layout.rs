@@ -51,9 +51,9 @@ impl Page {
 
     /// A call over some lines.
     fn put_call(&mut self, front: &str, arguments: &[String]) {
-        self.line = INDENT.to_string() + front;
+        self.put(front, INDENT);
         for argument in arguments {
-            self.put_pieces(argument, INDENT);
+            self.put_term(argument, INDENT, INDENT);
         }
         self.turn();
     }
@@ -63,34 +63,30 @@ impl Page {
         self.put(&format!("{front}("), INDENT);
         for part in parts {
             self.turn();
-            self.line = DEEPER.to_string();
-            self.put_pieces(&format!("{part},"), DEEPEST);
+            self.put_term(&format!("{part},"), DEEPER, DEEPEST);
         }
         self.turn();
         self.put(")", INDENT);
         self.turn();
     }
 
-    /// A term, cut where a list goes on if it does not fit on a line.
-    fn put_pieces(&mut self, term: &str, indent: &str) {
+    /// A term, which goes on with another indent. It is cut where a list goes on if it does not fit on a line.
+    fn put_term(&mut self, term: &str, indent: &str, deeper: &str) {
         if fits(indent, term) {
             self.put(term, indent);
             return;
         }
+        let mut indent = indent;
         for piece in pieces(term) {
             self.put(&piece, indent);
+            indent = deeper;
         }
     }
 
     /// Puts a piece behind what stands on the line, or on a new one if it does not fit.
     fn put(&mut self, piece: &str, indent: &str) {
-        if self.line.trim().is_empty() {
-            self.line += if self.line.is_empty() { indent } else { "" };
-            self.line += piece;
-            return;
-        }
         let behind = format!(" {piece}");
-        if fits(&self.line, &behind) {
+        if !self.line.is_empty() && fits(&self.line, &behind) {
             self.line += &behind;
             return;
         }
