@@ -221,9 +221,10 @@ fn lines(job: &Job) -> Result<Vec<(String, String)>, String> {
 
 fn write_listings(folder: &Path) -> Result<(), String> {
     for (name, text) in listings::files() {
-        let folder = folder.join(name).join("specs");
-        fs::create_dir_all(&folder).map_err(|error| format!("{}: {error}", folder.display()))?;
-        save(&folder.join("Listings.antt"), &text)?;
+        let path = folder.join(name);
+        let specs = path.parent().expect("a file lies in a folder");
+        fs::create_dir_all(specs).map_err(|error| format!("{}: {error}", specs.display()))?;
+        save(&path, &text)?;
     }
     Ok(())
 }

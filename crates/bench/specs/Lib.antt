@@ -1,4 +1,3 @@
 pub mod Benches
-pub mod Listings
 pub mod Tables
 pub mod Voices

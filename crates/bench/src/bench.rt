@@ -1,7 +1,6 @@
 // A table of tags that is the caller's, played as a field.
 ghost use Rattle.std.specs.Prelude.{◌≡◌, ◌≤◌, length};
 ghost use Rattle.field.specs.Sends.{Sized};
-ghost use Rattle.bench.specs.Listings.{Finds};
 ghost use Rattle.bench.specs.Tables.{place_of};
 
 use record::Tag;
@@ -15,10 +14,8 @@ pub struct Bench<'a> {
 }
 
 // The first place of a table that has a serial number.
-#[tactic(auto, using(crate::proofs::Listed::finds))]
 pub fn place_of(table: &[Tag], serial: &[u8]) -> Option<usize>
     ensures place { result ≡ place_of table.now serial.now }
-    ensures worked { Finds }
 {
     table.iter().position(|tag| tag.has_serial(serial))
 }

@@ -6,7 +6,6 @@ ghost use Rattle.reply.specs.Replies.{longest_reply};
 ghost use Rattle.tag.specs.Steps.{stepped};
 ghost use Rattle.field.specs.Airs.{only_reply, plainly, MayHear};
 ghost use Rattle.field.specs.Sends.{coin_at, stepped_all, on_air, gapped_all, padded, left_in, InPlace, Sized};
-ghost use Rattle.bench.specs.Listings.{GapsForAll};
 ghost use Rattle.bench.specs.Voices.{hearing_with, speaker_with, spoken, said};
 
 use field::buffer::clear;
@@ -122,10 +121,8 @@ fn step_each(table: &mut [Tag], opened: &Result<Frame<'_>, Refusal>, row: u64) -
     heard
 }
 
-#[tactic(auto, using(crate::proofs::Listed::gaps_for_all))]
 pub(crate) fn pass_all(table: &mut [Tag], microseconds: u32)
     ensures tags { table.new ≡ gapped_all microseconds table.old }
-    ensures worked { GapsForAll }
 {
     for tag in table.iter_mut() {
         tag.pass(microseconds);

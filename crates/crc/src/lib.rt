@@ -4,7 +4,6 @@
 
 ghost use Rattle.std.specs.Prelude.{◌≡◌, ℕ, ◌-◌, ◌++◌, if◌then◌else◌, fold};
 ghost use Rattle.crc.specs.Check.{bit_taken, byte_taken, register, check_value, sent};
-ghost use Rattle.crc.specs.Listings.{BitsTaken, BytesTaken, SealedMessages};
 ghost use Rattle.crc.specs.Standard.{CheckVector};
 
 mod table;
@@ -78,14 +77,11 @@ impl Register {
 
 // The check value of a message: the register over it, inverted. The message with it, high byte first, always leaves
 // the same value in the register.
-#[tactic(auto, using(crate::proofs::Listed::bits_taken, crate::proofs::Listed::bytes_taken, crate::proofs::Listed::sealed_messages, crate::proofs::Standard::check_vector))]
+#[tactic(auto, using(crate::proofs::Standard::check_vector))]
 pub fn check_value(message: &[u8]) -> u16
     ensures value { result ≡ check_value message.now }
     ensures residue { register (message.now ++ sent result) ≡ 0x1d0f }
     ensures standard { CheckVector }
-    ensures bits { BitsTaken }
-    ensures bytes { BytesTaken }
-    ensures messages { SealedMessages }
 {
     ONES - after_bytes(PRESET, message)
 }

@@ -1,6 +1,5 @@
 pub mod Airs
 pub mod Buffers
 pub mod Joins
-pub mod Listed
 pub mod Sizes
 pub mod Walks

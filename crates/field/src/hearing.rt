@@ -1,7 +1,6 @@
 // What a reader hears after a frame.
 ghost use Rattle.std.specs.Prelude.{◌≡◌, Some};
 ghost use Rattle.field.specs.Airs.{hearing_number, hearing_name, together};
-ghost use Rattle.field.specs.Listings.{HearingsListed, HeardTogether};
 
 use std::fmt;
 
@@ -17,10 +16,8 @@ pub enum Hearing {
 
 impl Hearing {
     // The number by which the hearing is known outside.
-    #[tactic(auto, using(crate::proofs::Listed::hearings_listed))]
     pub fn number(self) -> u8
         ensures number { result ≡ hearing_number self }
-        ensures worked { HearingsListed }
     {
         self as u8
     }
@@ -36,10 +33,8 @@ impl Hearing {
     }
 
     // What is heard of two groups of tags at once: two that are not silent are a clash.
-    #[tactic(auto, using(crate::proofs::Listed::heard_together))]
     pub fn with(self, other: Hearing) -> Hearing
         ensures hearing { result ≡ together self other }
-        ensures worked { HeardTogether }
     {
         match (self, other) {
             (Hearing::Silence, heard) => heard,

@@ -5,7 +5,6 @@ ghost use Rattle.frame.specs.Openings.{opening};
 ghost use Rattle.field.specs.Airs.{MayHear};
 ghost use Rattle.field.specs.Sends.{on_air, is_short, sent_to, left_in, gapped_all};
 ghost use Rattle.field_cases.specs.Fingerprints.{tags_fingerprint};
-ghost use Rattle.field_cases.specs.Listings.{SpeltSendings};
 ghost use Rattle.field_cases.specs.Questions.{SpellsSending};
 
 use crate::reading::{read_row, split_word};
@@ -36,10 +35,8 @@ pub struct Sending {
 
 impl Sending {
     // By three words, ROW ROOM FRAME.
-    #[tactic(auto, using(crate::proofs::Listed::spelt_sendings))]
     pub(crate) fn read(heap: Global, text: &str) -> anyhow::Result<Sending>
         ensures ok { IfOk result (λ s. SpellsSending text.now s.row s.room s.frame.items) }
-        ensures worked { SpeltSendings }
     {
         let (row, rest) = split_word(text)?;
         let (room, frame) = split_word(rest)?;

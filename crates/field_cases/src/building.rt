@@ -1,7 +1,6 @@
 // A field, built as words say: `bench N`, `single`, `pair LEFT RIGHT`, `spoiler K BELOW`.
 ghost use Rattle.std.specs.Prelude.{◌≡◌, ◌<◌, [], ◌++◌, length, IfOk, OnErr};
 ghost use Rattle.field_cases.specs.Builds.{parts_tags};
-ghost use Rattle.field_cases.specs.Listings.{PartsTaken, NodesNested};
 ghost use Rattle.field_cases.specs.Nestings.{leaf_tags, node_tags};
 
 use crate::nesting::{Leaf, Node};
@@ -160,13 +159,10 @@ impl<F> Parts<F> {
         Ok(Parts::Bare(F::build(source)?))
     }
 
-    #[tactic(auto, using(crate::proofs::Listed::parts_taken, crate::proofs::Listed::nodes_nested))]
     fn joined(self) -> Result<Node<F>, Trouble>
     where
         F: Field + Drop,
         ensures tags { IfOk result (λ n. node_tags F.tags n ≡ parts_tags F.tags self) }
-        ensures worked { PartsTaken }
-        ensures nested { NodesNested }
     {
         Ok(match self {
             Parts::Bare(field) => Node::Bare(field),

@@ -11,6 +11,7 @@ mod playing;
 mod reading;
 mod showing;
 mod storage;
+mod worked;
 
 use crate::playing::play_all;
 use std::process::ExitCode;

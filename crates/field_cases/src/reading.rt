@@ -2,7 +2,6 @@
 ghost use Rattle.std.specs.Prelude.{◌≡◌, IfOk, IfErr};
 ghost use Rattle.spelling.specs.Misspellings.{Reads};
 ghost use Rattle.spelling.specs.declared.misspelt.Misspelt.TheVariants.{Bytes, Missing};
-ghost use Rattle.field_cases.specs.Listings.{SplitWords, SingleWords, SpeltRows};
 ghost use Rattle.field_cases.specs.Questions.{SpellsRow, first_word, behind_first, IsOneWord};
 
 use anyhow::bail;
@@ -39,21 +38,16 @@ pub(crate) fn read_tag(heap: Global, text: &str) -> anyhow::Result<Tag> {
 }
 
 // The first word of several, and what stands behind the space after it.
-#[tactic(auto, using(crate::proofs::Listed::split_words, crate::proofs::Listed::single_words))]
 pub(crate) fn split_word(text: &str) -> Result<(&str, &str), Misspelt>
     ensures ok { IfOk result (λ p. (p.0.now ≡ first_word text.now) × (p.1.now ≡ behind_first text.now)) }
     ensures err { IfErr result (λ e. (e ≡ Missing) × IsOneWord text.now) }
-    ensures worked { SplitWords }
-    ensures single { SingleWords }
 {
     text.split_once(' ').ok_or(Misspelt::Missing)
 }
 
 // A row of coins, by its sixteen digits.
-#[tactic(auto, using(crate::proofs::Listed::spelt_rows))]
 pub(crate) fn read_row(text: &str) -> Result<u64, Misspelt>
     ensures row { Reads SpellsRow Bytes text.now result }
-    ensures worked { SpeltRows }
 {
     Ok(u64::from_be_bytes(read_array::<8>(text)?))
 }

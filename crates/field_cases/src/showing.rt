@@ -2,7 +2,6 @@
 ghost use Rattle.std.specs.Prelude.{◌≡◌, ◌≢◌, ℕ, List, [], ◌∷◌, ◌++◌, map, fold, replicate};
 ghost use Rattle.std.specs.Int.{from_bool};
 ghost use Rattle.field_cases.specs.Fingerprints.{blank, byte_taken, fingerprint, tag_taken, tags_fingerprint};
-ghost use Rattle.field_cases.specs.Listings.{BytesTaken, TagsTaken};
 
 use field::lending::Lending;
 use record::{MEMORY_LENGTH, Tag};
@@ -89,19 +88,15 @@ impl Fingerprint {
     }
 }
 
-#[tactic(auto, using(crate::proofs::Listed::bytes_taken))]
 pub(crate) fn of_bytes(bytes: &[u8]) -> Fingerprint
     ensures fingerprint { result ≡ fingerprint bytes.now }
-    ensures worked { BytesTaken }
 {
     Fingerprint::new().with_bytes(bytes)
 }
 
 // Of all records of a field, by place.
-#[tactic(auto, using(crate::proofs::Listed::tags_taken))]
 pub(crate) fn of_tags<F: Lending>(field: &F) -> Fingerprint
     ensures fingerprint { result ≡ tags_fingerprint (F.tags field.now) }
-    ensures worked { TagsTaken }
 {
     let mut fingerprint = Fingerprint::new();
     for place in 0..field.places() {

@@ -1,5 +1,4 @@
 pub mod Cases
-pub mod Listings
 pub mod Makings
 pub mod Openings
 pub mod Parts

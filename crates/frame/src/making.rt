@@ -1,7 +1,6 @@
 // Making a frame at the front of a lent buffer.
 ghost use Rattle.std.specs.Prelude.{◌≡◌, ℕ, ◌+◌, length, take, IfOk, IfErr};
 ghost use Rattle.frame.specs.Cases.{BareFrames};
-ghost use Rattle.frame.specs.Listings.{MadeFrames};
 ghost use Rattle.frame.specs.Makings.{making, unmade, answering, leaving, OpensAs};
 ghost use Rattle.protocol.specs.Commands.{code_of, length_of};
 ghost use Rattle.protocol.specs.Refusals.{answer_of, number_of};
@@ -15,13 +14,12 @@ pub const LONGEST_FRAME: usize = 17;
 
 // Makes the frame of a code with its parameters, and tells its length. It opens as that code with those parameters.
 // Callers give the two as they have them, which may be no frame's; a `Draft` is made of those that are.
-#[tactic(auto, using(crate::proofs::Limits::bare_frames, crate::proofs::Listed::made_frames))]
+#[tactic(auto, using(crate::proofs::Limits::bare_frames))]
 pub fn make(code: u8, parameters: &[u8], buffer: &mut [u8]) -> Result<usize, Refusal>
     ensures answer { answer_of result ≡ answering (making code parameters.now (length buffer.old)) }
     ensures buffer { buffer.new ≡ leaving (making code parameters.now (length buffer.old)) buffer.old }
     ensures opens { IfOk result (λ n. OpensAs code parameters.now (take n buffer.new)) }
     ensures bare { BareFrames }
-    ensures worked { MadeFrames }
 {
     Draft::of(code, parameters)?.write(buffer)
 }

@@ -1,7 +1,6 @@
 // Opening a frame: what it asks, and where each parameter lies in the caller's bytes.
 ghost use Rattle.std.specs.Prelude.{◌≡◌, ◌≤◌, length, IsTrue, IfOk, IfErr, OnOk, slice_index};
 ghost use Rattle.frame.specs.Cases.{DamagedFrames};
-ghost use Rattle.frame.specs.Listings.{OpenedFrames, RefusedFrames};
 ghost use Rattle.frame.specs.Makings.{making, made, longest_frame};
 ghost use Rattle.frame.specs.Openings.{refused, opening, is_sealed, parameters_of};
 ghost use Rattle.frame.specs.Openings.{seen, bytes_seen, code_seen, request_seen};
@@ -24,7 +23,7 @@ pub struct Frame<'a> {
 
 // Opens a frame, or tells why not. Each parameter lies in the bytes at its offset, and the bytes are the one frame that
 // making gives for that code and those parameters.
-#[tactic(auto, using(crate::proofs::Limits::damaged_frames, crate::proofs::Listed::opened_frames, crate::proofs::Listed::refused_frames))]
+#[tactic(auto, using(crate::proofs::Limits::damaged_frames))]
 pub fn open(bytes: &[u8]) -> Result<Frame<'_>, Refusal>
     ensures seen { seen result ≡ opening bytes.now }
     ensures bytes { IfOk result (λ f. bytes_seen f ≡ bytes.now) }
@@ -33,8 +32,6 @@ pub fn open(bytes: &[u8]) -> Result<Frame<'_>, Refusal>
         making (code_seen f) (bytes_in (parts_of (request_seen f))) (length bytes.now) ≡ made bytes.now) }
     ensures longest { OnOk result (length bytes.now ≤ longest_frame) }
     ensures damaged { DamagedFrames }
-    ensures worked { OpenedFrames }
-    ensures refused { RefusedFrames }
 {
     Sealed::of(bytes)?.frame()
 }

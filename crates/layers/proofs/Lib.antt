@@ -1,3 +1,2 @@
 pub mod Besides
 pub mod Joining
-pub mod Listed

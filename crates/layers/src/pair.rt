@@ -5,7 +5,6 @@ ghost use Rattle.frame.specs.Openings.{opening};
 ghost use Rattle.field.specs.Promises.{AfterSend};
 ghost use Rattle.field.specs.Sends.{row_behind, on_air, Answered};
 ghost use Rattle.field.proofs.Joins.{few_both, sized_both};
-ghost use Rattle.layers.specs.Listings.{PairCases};
 ghost use Rattle.reply.specs.Replies.{longest_reply};
 ghost use Rattle.layers.specs.Pairs.{left_of, right_of, fits, paired, beside, HeardOfBoth, Split};
 
@@ -27,14 +26,13 @@ pub struct Pair<L, R> {
 
 impl<L: Field, R: Field> Pair<L, R> {
     // Both fields as one, or both back if they have more than 64 places.
-    #[tactic(auto, using(crate::proofs::Joining::splits, crate::proofs::Listed::pair_cases))]
+    #[tactic(auto, using(crate::proofs::Joining::splits))]
     pub fn new(left: L, right: R) -> Result<Pair<L, R>, Declined<(L, R)>>
         ensures refusal { declined_by result
             ≡ (if fits (L.Field.tags left) (R.Field.tags right) then None else Some 6) }
         ensures parts { IfOk result (λ p. (left_of p ≡ left) × (right_of p ≡ right)) }
         ensures back { IfErr result (λ e. e.given ≡ (left, right)) }
         ensures split { Split (L.Field.tags left) (R.Field.tags right) }
-        ensures worked { PairCases }
     {
         if left.places() + right.places() > PLACES {
             return Err(Declined {

@@ -2,7 +2,6 @@
 ghost use Rattle.std.specs.Prelude.{◌≡◌, ℕ, ◌+◌, ◌%◌, ◌<◌, false, IfOk, IfErr, if◌then◌else◌, Some, None, nat_eq};
 ghost use Rattle.field.specs.Declining.{declined_by};
 ghost use Rattle.field.specs.Sends.{Answered};
-ghost use Rattle.layers.specs.Listings.{SpoilerCases};
 ghost use Rattle.layers.specs.Spoilers.{field_of, period_of, count_of, Spoils};
 
 use crate::spoiler::Spoiler;
@@ -16,13 +15,11 @@ use record::Tag;
 
 impl<F> Spoiler<F> {
     // A spoiler over a field, or the field back if the period is 0.
-    #[tactic(auto, using(crate::proofs::Listed::spoiler_cases))]
     pub fn new(field: F, period: u16) -> Result<Spoiler<F>, Declined<F>>
         ensures refusal { declined_by result ≡ (if nat_eq period 0 then Some 11 else None) }
         ensures made { IfOk result
             (λ s. (field_of s ≡ field) × (period_of s ≡ period) × (count_of s ≡ 0)) }
         ensures back { IfErr result (λ e. e.given ≡ field) }
-        ensures worked { SpoilerCases }
     {
         if period == 0 {
             return Err(Declined {

@@ -8,8 +8,9 @@ ghost use Rattle.frame.specs.Openings.{opening, code_seen, request_seen};
 ghost use Rattle.frame.specs.Parts.{span_of};
 ghost use Rattle.frame.specs.Requests.{parts_of};
 ghost use Rattle.protocol.specs.Refusals.{number_of};
-ghost use Rattle.panel.specs.Listings.{ShownFrames};
 ghost use Rattle.panel.specs.Shown.{Small, Selects, offset_in, length_in, shown_of, answering, leaving};
+
+mod worked;
 
 use crc::check_value;
 use frame::opening::{Frame, open};
@@ -29,13 +30,11 @@ pub extern "C" fn nolbashi_check_value(message: &[u8]) -> u16
 
 // Opens a frame, and shows its code and its parameters in the first bytes of `shown`. Answers 0, or the number of the
 // refusal, and then nothing is changed.
-#[tactic(auto, using(crate::proofs::Listed::shown_frames))]
 #[unsafe(no_mangle)]
 pub extern "C" fn nolbashi_open(frame: &[u8], shown: &mut [u8]) -> u8
     ensures answer { result ≡ answering (opening frame.now) (length shown.old) }
     ensures shown { shown.new ≡ leaving (opening frame.now) shown.old }
     ensures selects { result ≡ 0 → Selects shown.new frame.now }
-    ensures worked { ShownFrames }
 {
     // A number, and a frame beside a buffer, since that is what C has.
     show(frame, shown).err().map_or(0, Refusal::number)

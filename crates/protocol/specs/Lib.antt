@@ -1,5 +1,4 @@
 pub mod Commands
 pub mod Entries
-pub mod Listings
 pub mod Names
 pub mod Refusals

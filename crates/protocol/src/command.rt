@@ -2,7 +2,6 @@
 ghost use Rattle.std.specs.Prelude.{◌≡◌, map};
 ghost use Rattle.protocol.specs.Commands.{code_of, commands, entry_of, first_entry};
 ghost use Rattle.protocol.specs.Entries.{Entered};
-ghost use Rattle.protocol.specs.Listings.{CommandsListed, UnknownCodes};
 
 use crate::refusal::Refusal;
 
@@ -151,11 +150,8 @@ impl Command {
 
 // The entry of a code, if a command has it.
 #[inline(always)]
-#[tactic(auto, using(crate::proofs::Listed::commands_listed, crate::proofs::Listed::unknown_codes))]
 pub fn find(code: u8) -> Option<Entry>
     ensures entry { result ≡ first_entry code (map entry_of commands) }
-    ensures known { CommandsListed }
-    ensures unknown { UnknownCodes }
 {
     first_entry(code, &COMMANDS)
 }

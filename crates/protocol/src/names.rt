@@ -1,6 +1,5 @@
 // The names of commands and parameters, as the chip's users know them.
 ghost use Rattle.std.specs.Prelude.{◌≡◌, Some};
-ghost use Rattle.protocol.specs.Listings.{ParametersListed};
 ghost use Rattle.protocol.specs.Names.{command_name, parameter_name};
 
 use crate::command::{Command, Parameter};
@@ -30,10 +29,8 @@ impl Command {
 }
 
 impl Parameter {
-    #[tactic(auto, using(crate::proofs::Listed::parameters_listed))]
     pub fn name(self) -> &'static str
         ensures name { result.now ≡ parameter_name self }
-        ensures worked { ParametersListed }
     {
         match self {
             Parameter::Serial => "SNR",

@@ -1,6 +1,5 @@
 // Why a call is refused.
 ghost use Rattle.std.specs.Prelude.{◌≡◌, Some};
-ghost use Rattle.protocol.specs.Listings.{RefusalsListed};
 ghost use Rattle.protocol.specs.Names.{refusal_name};
 ghost use Rattle.protocol.specs.Refusals.{number_of};
 
@@ -30,10 +29,8 @@ pub enum Refusal {
 
 impl Refusal {
     // The number by which the refusal is known outside.
-    #[tactic(auto, using(crate::proofs::Listed::refusals_listed))]
     pub fn number(self) -> u8
         ensures number { result ≡ number_of self }
-        ensures worked { RefusalsListed }
     {
         self as u8
     }

@@ -1,4 +1,3 @@
 pub mod Likeness
-pub mod Listed
 pub mod Places
 pub mod Sizes

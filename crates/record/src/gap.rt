@@ -1,7 +1,6 @@
 // What a tag forgets while nothing is sent.
 ghost use Rattle.std.specs.Prelude.{◌≡◌};
 ghost use Rattle.record.specs.Gaps.{gapped};
-ghost use Rattle.record.specs.Listings.{Gaps};
 
 use crate::{State, Tag, WriteMark};
 
@@ -13,10 +12,8 @@ pub const LONG_GAP: u32 = 4_000_000;
 
 impl Tag {
     // Lets so many microseconds pass.
-    #[tactic(auto, using(crate::proofs::Listed::gaps))]
     pub fn pass(&mut self, microseconds: u32)
         ensures tag { self.new ≡ gapped microseconds self.old }
-        ensures worked { Gaps }
     {
         if microseconds < SHORT_GAP {
             return;

@@ -7,7 +7,6 @@ ghost use Rattle.std.specs.Cmp.Lexicographic.{lists_equiv, options_equiv};
 ghost use Rattle.std.specs.Str.{bytes_eq};
 ghost use Rattle.record.specs.Records.{byte_at, locked_at, serial_of, mark_number, fallen, is_write_ok, new_tag};
 ghost use Rattle.record.specs.Alike.{alike, state_number};
-ghost use Rattle.record.specs.Listings.{NewTags, Addresses, Marks, Likenesses};
 
 pub mod gap;
 pub mod marks;
@@ -70,11 +69,9 @@ impl WriteMark {
     }
 
     // One less, if it is not 0.
-    #[tactic(auto, using(crate::proofs::Listed::marks))]
     pub fn fallen(self) -> WriteMark
         ensures mark { result ≡ fallen self }
         ensures number { mark_number result ≡ mark_number self - 1 }
-        ensures worked { Marks }
     {
         match self {
             WriteMark::Fresh => WriteMark::Fading,
@@ -95,10 +92,8 @@ impl WriteMark {
 
 impl Tag {
     // A new tag: READY, with its first two bytes locked and all else clear.
-    #[tactic(auto, using(crate::proofs::Listed::new_tags))]
     pub fn new(memory: Memory) -> Tag
         ensures tag { result ≡ new_tag memory }
-        ensures worked { NewTags }
     {
         let mut locks = [false; MEMORY_LENGTH];
         locks[0] = true;
@@ -138,10 +133,8 @@ impl Tag {
     }
 
     // Whether the byte at an address is locked, as all above 37 are.
-    #[tactic(auto, using(crate::proofs::Listed::addresses))]
     pub fn is_locked(&self, address: usize) -> bool
         ensures locked { result ≡ locked_at self.now address }
-        ensures worked { Addresses }
     {
         element(&self.locks, address, true)
     }
@@ -161,11 +154,9 @@ impl PartialEq for Tag {
         (and_equiv (on_equiv (λ t. mark_number t.mark) nat_eq_equiv)
         (on_equiv (λ t. t.permission) (options_equiv nat_eq_equiv)))))))) };
 
-    #[tactic(auto, using(crate::proofs::Listed::likenesses))]
     fn eq(&self, other: &Tag) -> bool
         ensures value { result ≡ alike self.now other.now }
         ensures alike { IsTrue result ↔ (self.now ≡ other.now) }
-        ensures worked { Likenesses }
     {
         self.memory == other.memory
             && self.locks == other.locks

@@ -1,18 +1,14 @@
 // Masks, and what they select of the bytes from an address on. The two public calls take address, mask and bytes one by
 // one, as a frame has them; inside the three are one struct.
 ghost use Rattle.std.specs.Prelude.{◌≡◌, ◌+◌, slice_index, slice_set};
-ghost use Rattle.record.specs.Listings.{Selections, Comparisons, Storings};
 ghost use Rattle.record.specs.Masks.{selects, agrees_at, matches, stored_at, stored};
 
 use crate::{MEMORY_LENGTH, Tag, element};
 
 impl Tag {
     // Whether the selected ones of eight bytes from an address on are those of a word.
-    #[tactic(auto, using(crate::proofs::Listed::selections, crate::proofs::Listed::comparisons))]
     pub fn matches(&self, address: u8, mask: u8, word: &[u8]) -> bool
         ensures matches { result ≡ matches self.now.memory address mask word.now }
-        ensures masks { Selections }
-        ensures worked { Comparisons }
     {
         let wanted = Masked {
             address,
@@ -23,10 +19,8 @@ impl Tag {
     }
 
     // Stores the selected ones of four bytes from an address on.
-    #[tactic(auto, using(crate::proofs::Listed::storings))]
     pub fn store(&mut self, address: u8, mask: u8, bytes: &[u8])
         ensures stored { self.new ≡ record self.old { memory = stored address mask bytes.now self.old.memory 4 } }
-        ensures worked { Storings }
     {
         let given = Masked {
             address,

@@ -1,6 +1,5 @@
 // The names of a tag's states, told and read.
 ghost use Rattle.std.specs.Prelude.{◌≡◌, Some};
-ghost use Rattle.record.specs.Listings.{States};
 ghost use Rattle.record.specs.Names.{state_name, Named};
 
 use crate::State;
@@ -9,10 +8,8 @@ use std::fmt;
 use std::str::FromStr;
 
 impl State {
-    #[tactic(auto, using(crate::proofs::Listed::states))]
     pub fn name(self) -> &'static str
         ensures name { result.now ≡ state_name self }
-        ensures worked { States }
     {
         match self {
             State::Ready => "READY",

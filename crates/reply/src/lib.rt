@@ -7,7 +7,6 @@ ghost use Rattle.frame.specs.Makings.{made, answering, leaving, writing};
 ghost use Rattle.frame.specs.Writing.{Put};
 ghost use Rattle.protocol.specs.Refusals.{told, answer_of};
 ghost use Rattle.record.specs.Records.{bytes_from};
-ghost use Rattle.reply.specs.Listings.{Stretches, WrittenReplies};
 ghost use Rattle.reply.specs.Replies.{data_of, longest_reply};
 
 use frame::writer::Writer;
@@ -30,14 +29,11 @@ pub enum Reply {
 
 impl Reply {
     // Writes the reply of a tag, data and check value, at the front of a buffer, and tells its length.
-    #[tactic(auto, using(crate::proofs::Listed::stretches, crate::proofs::Listed::written_replies))]
     pub fn write(self, tag: &Tag, buffer: &mut [u8]) -> Result<usize, Refusal>
         ensures answer { answer_of result ≡ answering (writing (sealed (data_of tag.now self)) (length buffer.old)) }
         ensures buffer { buffer.new ≡
             leaving (writing (sealed (data_of tag.now self)) (length buffer.old)) buffer.old }
         ensures longest { length (sealed (data_of tag.now self)) ≤ longest_reply }
-        ensures memory { Stretches }
-        ensures worked { WrittenReplies }
     {
         if buffer.len() < self.length(tag) {
             return Err(Refusal::Buffer);

@@ -1,4 +1,3 @@
 pub mod Fronts
-pub mod Listed
 pub mod Prints
 pub mod Readings

@@ -4,7 +4,6 @@
 ghost use Rattle.std.specs.Prelude.{◌≡◌, ◌≤◌, length};
 ghost use Rattle.frame.specs.Makings.{made, answering, leaving, writing};
 ghost use Rattle.protocol.specs.Refusals.{told, answer_of};
-ghost use Rattle.sheet.specs.Listings.{Columns, SheetsPrinted, SheetRooms};
 ghost use Rattle.sheet.specs.Readings.{LinesReadBack};
 ghost use Rattle.sheet.specs.Sheets.{sheet};
 
@@ -22,7 +21,7 @@ use slot::ending::Report;
 use slot::row::SlotRow;
 
 // Writes the sheet at the front of a buffer, and tells its length.
-#[tactic(auto, using(crate::proofs::Readings::lines_read_back, crate::proofs::Listed::columns_listed, crate::proofs::Listed::sheets_printed, crate::proofs::Listed::sheet_rooms))]
+#[tactic(auto, using(crate::proofs::Readings::lines_read_back))]
 pub fn write(
     slots: &[SlotRow],
     serials: &[Serial],
@@ -34,9 +33,6 @@ pub fn write(
     ensures buffer { buffer.new
         ≡ leaving (writing (sheet slots.now serials.now report.now) (length buffer.old)) buffer.old }
     ensures lines { LinesReadBack }
-    ensures columns { Columns }
-    ensures worked { SheetsPrinted }
-    ensures rooms { SheetRooms }
 {
     // A buffer that is too short is refused before anything is written into it.
     print(&mut Room::new(buffer.len()), slots, serials, report)?;

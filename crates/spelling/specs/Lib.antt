@@ -1,5 +1,4 @@
 pub mod Hexadecimal
-pub mod Listings
 pub mod Misspellings
 pub mod Samples
 pub mod Sent

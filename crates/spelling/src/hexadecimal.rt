@@ -3,7 +3,6 @@ ghost use Rattle.std.specs.Fmt.{WritesOnOk};
 ghost use Rattle.std.specs.Prelude.{◌≡◌, ◌⊎◌, [], ◌∷◌, codes, IfOk, IfErr, Some};
 ghost use Rattle.hex.specs.Hex.{encode_upper};
 ghost use Rattle.spelling.specs.Hexadecimal.{shown, has_small, SpellsBytes, SpellsArray, SpellsByte, IsNoBytes};
-ghost use Rattle.spelling.specs.Listings.{ShownBytes, SmallLetters, SpeltBytes, SpeltArrays, SpeltSingle};
 ghost use Rattle.spelling.specs.Misspellings.{Reads};
 ghost use Rattle.spelling.specs.declared.misspelt.Misspelt.TheVariants.{Bytes, Memory};
 
@@ -41,11 +40,9 @@ impl<'a> Hex<'a> {
 impl fmt::Display for Hex<'_> {
     ghost output = { λ hex. Some (shown hex.between.now hex.bytes.now) };
 
-    #[tactic(auto, using(crate::proofs::Listed::shown_bytes))]
     fn fmt<W: fmt::Write>(&self, f: &mut fmt::Formatter<W>) -> fmt::Result
         ensures writes { WritesOnOk W.Write.write_str_gives f.old result
             (shown self.now.between.now self.now.bytes.now) f.new }
-        ensures worked { ShownBytes }
     {
         let [first, rest @ ..] = self.bytes else {
             return write!(f, "-");
@@ -66,11 +63,9 @@ fn write_byte<W: fmt::Write>(f: &mut fmt::Formatter<W>, byte: u8) -> fmt::Result
 }
 
 // The bytes that a text spells.
-#[tactic(auto, using(crate::proofs::Listed::spelt_bytes))]
 pub fn read_bytes(heap: Global, text: &str) -> Result<Vec<u8>, Misspelt>
     ensures ok { IfOk result (λ bytes. SpellsBytes text.now bytes.items) }
     ensures err { IfErr result (λ e. (e ≡ Memory) ⊎ IsNoBytes text.now e) }
-    ensures worked { SpeltBytes }
 {
     if text == "-" {
         return Ok(Vec::new(heap));
@@ -82,10 +77,8 @@ pub fn read_bytes(heap: Global, text: &str) -> Result<Vec<u8>, Misspelt>
 }
 
 // As many bytes as are wanted.
-#[tactic(auto, using(crate::proofs::Listed::spelt_arrays))]
 pub fn read_array<const N: usize>(text: &str) -> Result<[u8; N], Misspelt>
     ensures array { Reads (SpellsArray N) Bytes text.now result }
-    ensures worked { SpeltArrays }
 {
     if has_small(text) {
         return Err(Misspelt::Bytes);
@@ -93,20 +86,16 @@ pub fn read_array<const N: usize>(text: &str) -> Result<[u8; N], Misspelt>
     <[u8; N]>::from_hex(text).or(Err(Misspelt::Bytes))
 }
 
-#[tactic(auto, using(crate::proofs::Listed::spelt_single))]
 pub fn read_byte(text: &str) -> Result<u8, Misspelt>
     ensures byte { Reads SpellsByte Bytes text.now result }
-    ensures worked { SpeltSingle }
 {
     let [byte] = read_array::<1>(text)?;
     Ok(byte)
 }
 
 // Whether a text has small letters, which `hex` would read too.
-#[tactic(auto, using(crate::proofs::Listed::small_letters))]
 fn has_small(text: &str) -> bool
     ensures small { result ≡ has_small text.now }
-    ensures worked { SmallLetters }
 {
     text.bytes().any(|letter| letter.is_ascii_lowercase())
 }

@@ -1,7 +1,6 @@
 // Where in the input something is wrong.
 ghost use Rattle.std.specs.Fmt.{WritesOnOk};
 ghost use Rattle.std.specs.Prelude.{Some};
-ghost use Rattle.spelling.specs.Listings.{LinesListed};
 ghost use Rattle.spelling.specs.Misspellings.{line_text};
 
 use std::fmt;
@@ -15,10 +14,8 @@ pub struct Line {
 impl fmt::Display for Line {
     ghost output = { λ line. Some (line_text line.number) };
 
-    #[tactic(auto, using(crate::proofs::Listed::lines_listed))]
     fn fmt<W: fmt::Write>(&self, f: &mut fmt::Formatter<W>) -> fmt::Result
         ensures writes { WritesOnOk W.Write.write_str_gives f.old result (line_text self.now.number) f.new }
-        ensures worked { LinesListed }
     {
         write!(f, "line {}", self.number)
     }

@@ -1,7 +1,6 @@
 // Why a text is not read, or a frame not made.
 ghost use Rattle.std.specs.Fmt.{WritesOnOk};
 ghost use Rattle.std.specs.Prelude.{◌≡◌, Some};
-ghost use Rattle.spelling.specs.Listings.{ErrorsListed, ErrorsOfHex};
 ghost use Rattle.spelling.specs.Misspellings.{misspelt_text, of_hex};
 ghost use Rattle.spelling.specs.declared.misspelt.Misspelt.TheVariants.{Memory, Refused};
 
@@ -34,10 +33,8 @@ pub enum Misspelt {
 impl fmt::Display for Misspelt {
     ghost output = { λ misspelt. Some (misspelt_text misspelt) };
 
-    #[tactic(auto, using(crate::proofs::Listed::errors_listed))]
     fn fmt<W: fmt::Write>(&self, f: &mut fmt::Formatter<W>) -> fmt::Result
         ensures writes { WritesOnOk W.Write.write_str_gives f.old result (misspelt_text self.now) f.new }
-        ensures worked { ErrorsListed }
     {
         match self {
             Misspelt::Bytes => f.pad("not the bytes that are wanted, in hexadecimal"),
@@ -57,10 +54,8 @@ impl Error for Misspelt {}
 impl From<FromHexError> for Misspelt {
     ghost from_gives = { λ error misspelt. misspelt ≡ of_hex error };
 
-    #[tactic(auto, using(crate::proofs::Listed::errors_of_hex))]
     fn from(error: FromHexError) -> Misspelt
         ensures misspelt { result ≡ of_hex error }
-        ensures worked { ErrorsOfHex }
     {
         match error {
             FromHexError::OutOfMemory => Misspelt::Memory,

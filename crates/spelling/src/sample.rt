@@ -1,7 +1,6 @@
 // The tags that the programs show.
 ghost use Rattle.std.specs.Prelude.{◌≡◌, ◌++◌, IfOk};
 ghost use Rattle.record.specs.Records.{new_tag};
-ghost use Rattle.spelling.specs.Listings.{NumberedTags, SampleListed};
 ghost use Rattle.spelling.specs.Samples.{sample_serial, sample_memory, numbered_serial, numbered_memory};
 
 use record::{MEMORY_LENGTH, Serial, Tag};
@@ -20,10 +19,8 @@ pub fn numbered_serial(number: u8) -> Serial
 }
 
 // The tag with that serial number, new, with 00 in all other bytes.
-#[tactic(auto, using(crate::proofs::Listed::numbered_tags))]
 pub fn numbered_tag(number: u8) -> Tag
     ensures tag { result ≡ new_tag (numbered_memory number) }
-    ensures worked { NumberedTags }
 {
     let mut memory = [0; MEMORY_LENGTH];
     memory[..SERIAL.len()].copy_from_slice(&numbered_serial(number));
@@ -31,10 +28,8 @@ pub fn numbered_tag(number: u8) -> Tag
 }
 
 // The tag that is shown on its own.
-#[tactic(auto, using(crate::proofs::Listed::sample_listed))]
 pub fn sample_tag() -> Tag
     ensures tag { result ≡ new_tag sample_memory }
-    ensures worked { SampleListed }
 {
     numbered_tag(SERIAL[7])
 }

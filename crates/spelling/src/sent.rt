@@ -1,6 +1,5 @@
 // What is sent: the bytes of frames and of replies.
 ghost use Rattle.std.specs.Prelude.{◌≡◌, ◌⊎◌, IfOk, IfErr};
-ghost use Rattle.spelling.specs.Listings.{FramesListed, NoFramesListed, RepliesListed};
 ghost use Rattle.spelling.specs.Sent.{IsFrame, IsNoFrame, reply_bytes};
 ghost use Rattle.spelling.specs.declared.misspelt.Misspelt.TheVariants.{Memory};
 
@@ -11,12 +10,9 @@ use reply::{LONGEST_REPLY, Reply};
 use std::alloc::Global;
 
 // The frame of a code with its parameters.
-#[tactic(auto, using(crate::proofs::Listed::frames_listed, crate::proofs::Listed::no_frames_listed))]
 pub fn framed(heap: Global, code: u8, parameters: &[u8]) -> Result<Vec<u8>, Misspelt>
     ensures ok { IfOk result (λ bytes. IsFrame code parameters.now bytes.items) }
     ensures err { IfErr result (λ e. (e ≡ Memory) ⊎ IsNoFrame code parameters.now e) }
-    ensures worked { FramesListed }
-    ensures refused { NoFramesListed }
 {
     let mut frame = vec![in heap; 0u8; LONGEST_FRAME]?;
     let length = make(code, parameters, frame.as_mut_slice())?;
@@ -26,11 +22,9 @@ pub fn framed(heap: Global, code: u8, parameters: &[u8]) -> Result<Vec<u8>, Miss
 
 // A tag's reply, with its check value, or no bytes for none. Like `framed`, but each says by its own call what its
 // buffer holds, which a closure's contract could only say again.
-#[tactic(auto, using(crate::proofs::Listed::replies_listed))]
 pub fn replied(heap: Global, tag: &Tag, reply: Option<Reply>) -> Result<Vec<u8>, Misspelt>
     ensures ok { IfOk result (λ bytes. bytes.items ≡ reply_bytes tag.now reply) }
     ensures err { IfErr result (λ e. e ≡ Memory) }
-    ensures worked { RepliesListed }
 {
     let Some(reply) = reply else {
         return Ok(Vec::new(heap));

@@ -1,7 +1,6 @@
 // The words of a record.
 ghost use Rattle.std.specs.Prelude.{◌≡◌, Ok, Err, Some, None, MatchOption, IfOk, IfErr};
 ghost use Rattle.spelling.specs.Hexadecimal.{SpellsByte};
-ghost use Rattle.spelling.specs.Listings.{SpeltBits, SpeltMarks, SpeltPermissions, SpeltLocks};
 ghost use Rattle.spelling.specs.Misspellings.{Reads};
 ghost use Rattle.spelling.specs.Words.{SpellsBit, SpellsState, SpellsMark, SpellsPermission, SpellsLocks};
 ghost use Rattle.spelling.specs.Words.{ReadsNext, SpellsParts, IsNoParts};
@@ -31,10 +30,8 @@ pub fn no_word(next: Option<&str>) -> Result<(), Misspelt>
 }
 
 // `parse` would read `true` and `false` instead.
-#[tactic(auto, using(crate::proofs::Listed::spelt_bits))]
 pub fn read_bit(text: &str) -> Result<bool, Misspelt>
     ensures bit { Reads SpellsBit Bit text.now result }
-    ensures worked { SpeltBits }
 {
     match text {
         "0" => Ok(false),
@@ -50,10 +47,8 @@ pub fn read_state(text: &str) -> Result<State, Misspelt>
 }
 
 // By its one digit, since 01 and +1 are none of a mark's spellings.
-#[tactic(auto, using(crate::proofs::Listed::spelt_marks))]
 pub fn read_mark(text: &str) -> Result<WriteMark, Misspelt>
     ensures mark { Reads SpellsMark Mark text.now result }
-    ensures worked { SpeltMarks }
 {
     let [digit @ b'0'..=b'9'] = text.as_bytes() else {
         return Err(Misspelt::Mark);
@@ -62,10 +57,8 @@ pub fn read_mark(text: &str) -> Result<WriteMark, Misspelt>
 }
 
 // An address, or a dash for none.
-#[tactic(auto, using(crate::proofs::Listed::spelt_permissions))]
 pub fn read_permission(text: &str) -> Result<Option<u8>, Misspelt>
     ensures permission { Reads SpellsPermission Bytes text.now result }
-    ensures worked { SpeltPermissions }
 {
     if text == "-" {
         return Ok(None);
@@ -74,10 +67,8 @@ pub fn read_permission(text: &str) -> Result<Option<u8>, Misspelt>
 }
 
 // The highest bit of the first byte is address 00.
-#[tactic(auto, using(crate::proofs::Listed::spelt_locks))]
 pub fn read_locks(text: &str) -> Result<[bool; MEMORY_LENGTH], Misspelt>
     ensures locks { Reads SpellsLocks Bytes text.now result }
-    ensures worked { SpeltLocks }
 {
     let bytes = read_array::<LOCK_BYTES>(text)?;
     Ok(array::from_fn(|address| (bytes[address / 8] >> (7 - address % 8)) % 2 == 1))

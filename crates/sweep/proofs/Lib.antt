@@ -4,7 +4,6 @@ pub mod Deeds
 pub mod Empties
 pub mod Ends
 pub mod Frames
-pub mod Listed
 pub mod Misses
 pub mod Outcomes
 pub mod Plays

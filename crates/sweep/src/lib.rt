@@ -5,7 +5,6 @@ ghost use Rattle.std.specs.Prelude.{◌≡◌, IfOk, OnErr, if◌then◌else◌,
 ghost use Rattle.protocol.specs.Refusals.{refusal_in};
 ghost use Rattle.slot.specs.Going.{setting, BothBehind, is_recorded};
 ghost use Rattle.sweep.specs.Cases.{EmptySweeps};
-ghost use Rattle.sweep.specs.Listings.{SweepCases, WorkedFates};
 ghost use Rattle.sweep.specs.Whole.{outcome_of, Swept, Lawful};
 
 mod working;
@@ -19,7 +18,7 @@ use slot::working::is_recorded;
 use working::work;
 
 // Sweeps a field: splits each clash and reads each lone tag, until the sweep is whole or stopped.
-#[tactic(auto, using(crate::proofs::Listed::listings))]
+#[tactic(auto, using(crate::proofs::Empties::empty_sweeps))]
 pub fn sweep<F: Field>(
     field: &mut F,
     coins: &[u64],
@@ -34,8 +33,6 @@ pub fn sweep<F: Field>(
         (F.tags field.old) (F.tags field.new) (outcome_of r lists.new)) }
     ensures behind { BothBehind lists.old lists.new }
     ensures empty { EmptySweeps }
-    ensures worked { SweepCases }
-    ensures fates { WorkedFates }
 {
     if !is_recorded(coins) {
         return Err(Refusal::Coins);

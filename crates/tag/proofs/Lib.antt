@@ -2,5 +2,4 @@ pub mod Accounts
 pub mod Branches
 pub mod Effects
 pub mod Limits
-pub mod Listed
 pub mod Sizes

@@ -1,7 +1,6 @@
 pub mod Cases
 pub mod Flags
 pub mod Frames
-pub mod Listings
 pub mod Marks
 pub mod Memories
 pub mod Orders

@@ -8,7 +8,6 @@ ghost use Rattle.frame.specs.Requests.{command_of, parts_of};
 ghost use Rattle.reply.specs.Replies.{data_in, sounding, Residual};
 ghost use Rattle.tag.specs.Cases.{FullCounters};
 ghost use Rattle.tag.specs.Flags.{Flagged};
-ghost use Rattle.tag.specs.Listings.{StepCases};
 ghost use Rattle.tag.specs.Marks.{Remarked};
 ghost use Rattle.tag.specs.Memories.{Accounted};
 ghost use Rattle.tag.specs.Orders.{asked};
@@ -28,11 +27,9 @@ use record::{State, Tag};
 use reply::Reply;
 
 // Steps a tag on the bytes of a frame.
-#[tactic(auto, using(crate::proofs::Listed::step_cases))]
 pub fn hear(tag: &mut Tag, bytes: &[u8], coin: bool) -> Option<Reply>
     ensures after { tag.new ≡ stepped (opening bytes.now) coin tag.old }
     ensures reply { sounding (data_in tag.new result) ≡ replied (opening bytes.now) coin tag.old }
-    ensures worked { StepCases }
 {
     step(tag, &open(bytes), coin)
 }

@@ -1,32 +1,31 @@
 //! Looking a serial number up in a table, and gaps for all tags of one.
 
 use super::crowd::{bench, numbered, selected, tags_in, tags_term};
-use super::listing::{file as file_of, row, Listing};
-use super::term::{bytes, maybe, number};
+use super::listing::{file as file_of, row, Listing, Row};
+use super::term::{digits, maybe, number};
 use crate::field::Field;
 use crate::order::Serial;
 use crate::tag::{State, Tag};
 
 const HEAD: &str = "\
 -- Tables at the limits, by the second implementation, which wrote this file. Assumes nothing.
-use Rattle.std.specs.Prelude.{◌≡◌, ℕ, true, List, [], ◌∷◌, map, Some, None, Option}
-use Rattle.std.specs.List.{AllByRecursion, range_with_len}
+use Prim.Native.String.{String}
+use Rattle.std.specs.Prelude.{◌≡◌, ℕ, List, [], ◌∷◌, Some, None, Option}
+use Rattle.std.specs.List.{AllByRecursion}
 use Rattle.record.specs.declared.State.TheVariants.{Ready, Singulation, Inventoried}
-use Rattle.record.specs.declared.WriteMark.TheVariants.{Clear}
 use Rattle.record.specs.declared.Tag.{Tag}
-use Rattle.record.specs.Listings.{first_two, tag_with}
-use Rattle.field.specs.Listings.{ending, numbered}
 use Rattle.field.specs.Sends.{gapped_all}
 use Rattle.bench.specs.Tables.{place_of}
+use Rattle.worked_cases.specs.Words.{bytes, flagged, numbered, numbered_from}
 ";
 
 pub fn file() -> String {
     file_of(HEAD, &[finds(), gaps()])
 }
 
-fn find(table: &[Tag], serial: &Serial) -> String {
+fn find(table: &[Tag], serial: &Serial) -> Row {
     let place = table.iter().position(|tag| tag.serial() == serial);
-    row(&[tags_term(table), bytes(serial), maybe(place.map(number))])
+    row(&[tags_term(table), digits(serial), maybe(place.map(number))])
 }
 
 fn finds() -> Listing {
@@ -40,7 +39,7 @@ fn finds() -> Listing {
     Listing {
         about: "Tables of none to 64 tags, a serial number, and the first place that has it.",
         name: "Finds",
-        law: "{X = List Tag × List ℕ × Option ℕ} (λ x. place_of x.0 x.1 ≡ x.2)",
+        law: "{X = List Tag × String × Option ℕ} (λ (table, serial, place). place_of table (bytes serial) ≡ place)".into(),
         rows: vec![
             find(&[], &ends(0)),
             find(&selected(1..2), &ends(1)),
@@ -80,7 +79,7 @@ fn gaps() -> Listing {
     Listing {
         about: "Tags, a gap in microseconds, and the tags after it.",
         name: "GapsForAll",
-        law: "{X = List Tag × ℕ × List Tag} (λ x. gapped_all x.1 x.0 ≡ x.2)",
+        law: "{X = List Tag × ℕ × List Tag}\n    (λ (before, microseconds, after). gapped_all microseconds before ≡ after)".into(),
         rows,
     }
 }

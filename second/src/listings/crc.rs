@@ -1,15 +1,17 @@
 //! The check value: bits and bytes that the register takes, and messages.
 
 use super::listing::{file as file_of, row, Listing};
-use super::term::{byte, bytes, number, two_bytes};
+use super::term::{byte, digits, number, two_bytes};
 use crate::crc::{check_value, Register};
 use crate::frame::sealed;
 
 const HEAD: &str = "\
 -- The check value at the limits, by the second implementation, which wrote this file. Assumes nothing.
-use Rattle.std.specs.Prelude.{◌≡◌, ℕ, List, [], ◌∷◌}
+use Prim.Native.String.{String}
+use Rattle.std.specs.Prelude.{◌≡◌, ℕ, [], ◌∷◌}
 use Rattle.std.specs.List.{AllByRecursion}
 use Rattle.crc.specs.Check.{bit_taken, byte_taken, check_value, sealed}
+use Rattle.worked_cases.specs.Words.{bytes}
 ";
 
 /// Registers that are empty, full, or about to let a bit fall out.
@@ -38,7 +40,7 @@ fn bits_taken() -> Listing {
     Listing {
         about: "A register, a bit, and the register after it.",
         name: "BitsTaken",
-        law: "{X = ℕ × ℕ × ℕ} (λ x. bit_taken x.0 x.1 ≡ x.2)",
+        law: "{X = ℕ × ℕ × ℕ} (λ (before, bit, after). bit_taken before bit ≡ after)".into(),
         rows,
     }
 }
@@ -62,7 +64,7 @@ fn bytes_taken() -> Listing {
     Listing {
         about: "A register, a byte, and the register after it.",
         name: "BytesTaken",
-        law: "{X = ℕ × ℕ × ℕ} (λ x. byte_taken x.0 x.1 ≡ x.2)",
+        law: "{X = ℕ × ℕ × ℕ} (λ (before, byte, after). byte_taken before byte ≡ after)".into(),
         rows,
     }
 }
@@ -89,15 +91,15 @@ fn sealed_messages() -> Listing {
     ];
     let listed = |message: &&[u8]| {
         row(&[
-            bytes(message),
+            digits(message),
             two_bytes(u16::from_be_bytes(check_value(message))),
-            bytes(&sealed(message)),
+            digits(&sealed(message)),
         ])
     };
     Listing {
         about: "Messages from none to the longest in a frame, their check values, and the two as they are sent.",
         name: "SealedMessages",
-        law: "{X = List ℕ × ℕ × List ℕ} (λ x. (check_value x.0 ≡ x.1) × (sealed x.0 ≡ x.2))",
+        law: "{X = String × ℕ × String}\n    (λ (message, value, whole). (check_value (bytes message) ≡ value) × (sealed (bytes message) ≡ bytes whole))".into(),
         rows: messages.iter().map(listed).collect(),
     }
 }

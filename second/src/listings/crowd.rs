@@ -2,18 +2,30 @@
 
 use std::ops::Range;
 
-use super::term::{byte, number, state as state_term, stretch, tag, tag_with, Term};
+use super::term::{byte, number, state as state_term, stretch, tag_like, truth, Term};
 use crate::field::{Bench, Field, Heard, Hearing, REPLY_ROOM};
 use crate::frame::{sealed_with, Name};
 use crate::order::{Order, SERIAL_LENGTH};
 use crate::tag::{State, Tag, MEMORY_LENGTH};
 
 /// So many in a row are worth a word.
-const RUN: usize = 4;
+const RUN: usize = 2;
 
 /// A tag whose serial number ends with a byte; all its other bytes are 00.
 pub fn numbered(number: u8, state: State, counter: u8) -> Tag {
     let mut memory = [0; MEMORY_LENGTH];
+    memory[SERIAL_LENGTH - 1] = number;
+    Tag {
+        state,
+        counter,
+        ..Tag::new(memory)
+    }
+}
+
+/// A tag whose serial number matches the SELECT and ends with a byte; all bytes behind it are 00.
+pub fn carrier(number: u8, state: State, counter: u8) -> Tag {
+    let mut memory = [0; MEMORY_LENGTH];
+    memory[..2].copy_from_slice(&[0xEF, 0x04]);
     memory[SERIAL_LENGTH - 1] = number;
     Tag {
         state,
@@ -84,20 +96,73 @@ fn number_of(tag: &Tag) -> u8 {
     tag.memory[SERIAL_LENGTH - 1]
 }
 
-fn tag_term(each: &Tag) -> Term {
+/// A tag by a word for its kind, the number by which it is told from others of that, and what else the word takes.
+struct Call {
+    word: &'static str,
+    /// The word for many of them.
+    from: &'static str,
+    number: u8,
+    rest: Vec<Term>,
+}
+
+impl Call {
+    fn term(&self, number: Term) -> Term {
+        Term::call(self.word, &[&[number], self.rest.as_slice()].concat())
+    }
+
+    fn rest_text(&self) -> String {
+        let rest: Vec<&str> = self.rest.iter().map(Term::text).collect();
+        rest.join(" ")
+    }
+
+    fn follows(&self, place: usize, first: &Call) -> bool {
+        usize::from(self.number) == usize::from(first.number) + place
+            && self.word == first.word
+            && self.rest_text() == first.rest_text()
+    }
+}
+
+/// The nearest tag that has a word, with that.
+fn near(each: &Tag) -> (Call, Tag) {
     let number = number_of(each);
-    let plain = numbered(number, each.state, each.counter);
-    let number = byte(number);
-    if *each == plain {
-        return Term::call(
-            "numbered",
-            &[number, state_term(each.state), byte(each.counter)],
+    let (state, counter) = (state_term(each.state), byte(each.counter));
+    let with = |word, from, rest| Call {
+        word,
+        from,
+        number,
+        rest,
+    };
+    let like = carrier(number, each.state, each.counter);
+    if each.memory == like.memory {
+        let like = Tag {
+            id_flag: each.id_flag,
+            ..like
+        };
+        return (
+            with(
+                "carrier",
+                "carriers_from",
+                vec![state, truth(each.id_flag), counter],
+            ),
+            like,
         );
     }
-    if each.memory == plain.memory {
-        return tag_with(Term::call("ending", &[number]), each);
-    }
-    tag(each)
+    let like = numbered(number, each.state, each.counter);
+    (
+        with("numbered", "numbered_from", vec![state, counter]),
+        like,
+    )
+}
+
+pub fn tag_term(each: &Tag) -> Term {
+    let (call, like) = near(each);
+    tag_like(call.term(byte(call.number)), &like, each)
+}
+
+/// The call that tells a tag whole.
+fn whole_call(each: &Tag) -> Option<Call> {
+    let (call, like) = near(each);
+    (like == *each).then_some(call)
 }
 
 /// Tags with a word for each run that differs by growing numbers alone.
@@ -116,10 +181,9 @@ pub fn tags_term(all: &[Tag]) -> Term {
             lists.push(Term::list(&single));
             single.clear();
         }
-        let (state, counter) = (state_term(first.state), byte(first.counter));
-        let each = format!("λ n. numbered n {} {}", state.text(), counter.text());
-        let numbers = Term::call("range_with_len", &[byte(number_of(first)), number(length)]);
-        lists.push(Term::call("map", &[Term::open(each), numbers]));
+        let (call, _) = near(first);
+        let from = [&[byte(call.number), number(length)], call.rest.as_slice()].concat();
+        lists.push(Term::call(call.from, &from));
         rest = &rest[length..];
     }
     if !single.is_empty() {
@@ -128,12 +192,13 @@ pub fn tags_term(all: &[Tag]) -> Term {
     Term::joined(&lists)
 }
 
-/// How many tags from the first on are numbered one after the other, and alike but for that.
+/// How many tags from the first on have a word of one kind, and are numbered one after the other, and alike but for that.
 fn run(tags: &[Tag]) -> usize {
-    let first = &tags[0];
-    let numbers = number_of(first)..;
-    tags.iter()
-        .zip(numbers)
-        .take_while(|(tag, number)| **tag == numbered(*number, first.state, first.counter))
-        .count()
+    let Some(first) = whole_call(&tags[0]) else {
+        return 0;
+    };
+    let goes_on = |(place, tag): &(usize, &Tag)| {
+        whole_call(tag).is_some_and(|call| call.follows(*place, &first))
+    };
+    tags.iter().enumerate().take_while(goes_on).count()
 }

@@ -3,8 +3,9 @@
 use super::crowd::{
     air, bench, heard, hearing, hearing_term, query, selected, tags_in, tags_term, toss,
 };
-use super::listing::{file as file_of, named_row, row, Listing};
-use super::term::{bytes, number, stretch, text, truth, wide, Term};
+use super::listing::{file as file_of, row, row_by, Listing, Row};
+use super::term::{digits, number, stretch, text, truth, wide, Term};
+use super::words::OLD;
 use crate::field::{Field, Hearing, REPLY_ROOM};
 use crate::frame::{sealed_with, Name};
 use crate::layers::{Pair, Spoiler};
@@ -12,82 +13,71 @@ use crate::tag::Tag;
 
 const HEAD: &str = "\
 -- Sends and gaps at the limits, by the second implementation, which wrote this file. Assumes nothing.
-use Rattle.std.specs.Prelude.{◌≡◌, ℕ, Bool, true, false, cond, List, [], ◌∷◌, ◌++◌, map, length, replicate, Some, None, Ok, Err, codes, Result}
-use Rattle.std.specs.List.{AllByRecursion, range_with_len}
+use Prim.Native.String.{String}
+use Rattle.std.specs.Prelude.{◌≡◌, ℕ, Bool, true, false, cond, List, [], ◌∷◌, ◌++◌, replicate, Some, Ok, Err}
+use Rattle.std.specs.Prelude.{codes, Result}
+use Rattle.std.specs.List.{AllByRecursion}
 use Rattle.protocol.specs.declared.refusal.Refusal.{Refusal}
 use Rattle.protocol.specs.declared.refusal.Refusal.TheVariants.{Buffer}
 use Rattle.frame.specs.Openings.{opening}
-use Rattle.record.specs.declared.State.{State}
 use Rattle.record.specs.declared.State.TheVariants.{Ready, Singulation, Inventoried}
-use Rattle.record.specs.declared.WriteMark.TheVariants.{Clear}
 use Rattle.record.specs.declared.Tag.{Tag}
-use Rattle.record.specs.Listings.{first_two, tag_with}
 use Rattle.field.specs.declared.hearing.Hearing.{Hearing}
 use Rattle.field.specs.declared.hearing.Hearing.TheVariants.{Silence, Lone, Clash}
 use Rattle.field.specs.Airs.{Air, silent, one, many, mixed, hearing_number, hearing_name, MayHear, plainly, together}
 use Rattle.field.specs.Sends.{coin_at, on_air, is_short, sent_to, left_in}
-
--- A memory of which only the serial number's last byte is not 00.
-abbrev pub ending : ℕ → List ℕ
-ending n = replicate 7 0x00 ++ (n ∷ replicate 48 0x00)
-
--- A new tag with that memory, in some state, with some counter.
-abbrev pub numbered : ℕ → State → ℕ → Tag
-numbered n state counter = tag_with (ending n) first_two state false counter Clear None
-
--- Tags, a frame, a row of coins and a reply buffer; then the tags after the send, what is heard where every lone reply
--- is heard as lone, and the buffer after it.
-pub record SendCase : Type 0 where
-  pub before : List Tag
-  pub frame : List ℕ
-  pub row : ℕ
-  pub buffer : List ℕ
-  pub after : List Tag
-  pub result : Result Hearing Refusal
-  pub left : List ℕ
+use Rattle.worked_cases.specs.Words.{bytes, used, numbered, numbered_from}
 
 -- What a send gives where every lone reply is heard as lone.
 abbrev pub given : ℕ → Air → Result Hearing Refusal
 given room air = cond (is_short room) (Err Buffer) (Ok (plainly air))
 
-pub record Sent (x : SendCase) : Type 0 where
-  pub tags : sent_to (length x.buffer) x.frame x.row x.before ≡ x.after
-  pub result : given (length x.buffer) (on_air (opening x.frame) x.row x.before) ≡ x.result
-  pub buffer : left_in x.result (on_air (opening x.frame) x.row x.before) x.buffer ≡ x.left
-";
+-- Tags, a frame, a row of coins, how long the reply buffer is; then the tags after the send, what is heard where every
+-- lone reply is heard as lone, and the buffer after it.
+abbrev pub SendCase : Type 0
+SendCase = List Tag × String × ℕ × ℕ × List Tag × Result Hearing Refusal × List ℕ
 
-const OLD: u8 = 0xA5;
+abbrev pub Sent : SendCase → Type 0
+Sent (before, frame, row, room, after, result, left) =
+    let air = on_air (opening (bytes frame)) row before in
+    (sent_to room (bytes frame) row before ≡ after) × (given room air ≡ result)
+    × (left_in result air (used room) ≡ left)
 
-const TAIL: &str = "
--- What a send rests on.
-pub record SendCases : Type 0 where
-  pub sends : Sends
-  pub coins : Coins
-  pub mixed : MixedAirs
-  pub heard : HeardAirs
+abbrev pub send : List Tag → String → ℕ → ℕ → List Tag → Result Hearing Refusal → List ℕ → SendCase
+send before frame row room after result left = (before, frame, row, room, after, result, left)
 ";
 
 pub fn file() -> String {
-    let listings = [sends(), coins(), airs(), heard_airs(), hearings(), together()];
-    file_of(HEAD, &listings) + TAIL
+    let listings = [
+        sends(),
+        coins(),
+        airs(),
+        heard_airs(),
+        hearings(),
+        together(),
+    ];
+    file_of(HEAD, &listings)
 }
 
-fn send_row(before: Vec<Tag>, frame: &[u8], coins: u64, room: usize) -> String {
+fn send_row(before: Vec<Tag>, frame: &[u8], coins: u64, room: usize) -> Row {
     let mut field = bench(before.clone());
     let mut buffer = vec![OLD; room];
     let result = match field.send(frame, coins, &mut buffer) {
         Ok(heard) => Term::call("Ok", &[hearing_term(heard)]),
         Err(_) => Term::call("Err", &[Term::word("Buffer")]),
     };
-    named_row(&[
-        ("before", tags_term(&before)),
-        ("frame", bytes(frame)),
-        ("row", wide(coins)),
-        ("buffer", stretch(&vec![OLD; room])),
-        ("after", tags_term(&tags_in(&field))),
-        ("result", result),
-        ("left", stretch(&buffer)),
-    ])
+    row_by(
+        "send",
+        &[
+            tags_term(&before),
+            digits(frame),
+            wide(coins),
+            number(room),
+            tags_term(&tags_in(&field)),
+            result,
+            stretch(&buffer),
+        ],
+    )
 }
 
 fn sends() -> Listing {
@@ -98,7 +88,7 @@ fn sends() -> Listing {
     Listing {
         about: "Sends to no tag, one, two and 64, at both ends of a row, and with buffers that are short, exact and long.",
         name: "Sends",
-        law: "Sent",
+        law: "Sent".into(),
         rows: vec![
             send_row(vec![], &query, 0, REPLY_ROOM),
             send_row(selected(1..2), &query, 0, REPLY_ROOM),
@@ -132,7 +122,7 @@ fn coins() -> Listing {
     Listing {
         about: "A row of coins, a place, and its coin.",
         name: "Coins",
-        law: "{X = ℕ × ℕ × Bool} (λ x. coin_at x.0 x.1 ≡ x.2)",
+        law: "{X = ℕ × ℕ × Bool} (λ (row, place, coin). coin_at row place ≡ coin)".into(),
         rows,
     }
 }
@@ -148,7 +138,7 @@ fn hearings() -> Listing {
     Listing {
         about: "The hearings, with their numbers and names.",
         name: "HearingsListed",
-        law: "{X = Hearing × ℕ × List ℕ} (λ x. (hearing_number x.0 ≡ x.1) × (hearing_name x.0 ≡ x.2))",
+        law: "{X = Hearing × ℕ × String}\n    (λ (hearing, number, name). (hearing_number hearing ≡ number) × (hearing_name hearing ≡ codes name))".into(),
         rows: [Hearing::Silence, Hearing::Lone, Hearing::Clash]
             .map(listed)
             .into(),
@@ -172,7 +162,7 @@ fn airs() -> Listing {
     Listing {
         about: "What two groups of tags put on the air, and what they do together.",
         name: "MixedAirs",
-        law: "{X = Air × Air × Air} (λ x. mixed x.0 x.1 ≡ x.2)",
+        law: "{X = Air × Air × Air} (λ (left, right, both). mixed left right ≡ both)".into(),
         rows,
     }
 }
@@ -193,7 +183,7 @@ fn heard_airs() -> Listing {
     Listing {
         about: "What is on the air, what is heard of it by a bench or by a spoiler of all, and what a bench hears.",
         name: "HeardAirs",
-        law: "{X = Air × Hearing × Hearing} (λ x. MayHear x.0 x.1 × (plainly x.0 ≡ x.2))",
+        law: "{X = Air × Hearing × Hearing} (λ (air, heard, plain). MayHear air heard × (plainly air ≡ plain))".into(),
         rows,
     }
 }
@@ -212,7 +202,9 @@ fn together() -> Listing {
     Listing {
         about: "What two groups are heard as alone, and at once.",
         name: "HeardTogether",
-        law: "{X = Hearing × Hearing × Hearing} (λ x. together x.0 x.1 ≡ x.2)",
+        law:
+            "{X = Hearing × Hearing × Hearing} (λ (left, right, both). together left right ≡ both)"
+                .into(),
         rows,
     }
 }

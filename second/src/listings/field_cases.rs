@@ -2,9 +2,9 @@
 
 use std::slice;
 
-use super::crowd::{numbered, selected, tags_in, tags_term};
-use super::listing::{file as file_of, row, Listing};
-use super::term::{bytes, number, plain, stretch, tag, text, wide, Term};
+use super::crowd::{numbered, selected, tag_term, tags_in, tags_term};
+use super::listing::{file as file_of, row, Listing, Row};
+use super::term::{busy, number, plain, single_bytes, single_stretch, tag_like, text, wide, Term};
 use crate::field_question::{take_in, Question};
 use crate::fingerprint::Fingerprint;
 use crate::nesting::Nesting;
@@ -14,14 +14,15 @@ use crate::tag::{Locks, State, Tag};
 
 const HEAD: &str = "\
 -- Fingerprints, words and nestings, by the second implementation, which wrote this file. Assumes nothing.
+use Prim.Native.String.{String}
 use Rattle.std.proofs.Common.{lit≤}
-use Rattle.std.specs.Prelude.{◌≡◌, ℕ, true, false, List, [], ◌∷◌, ◌++◌, map, replicate, Some, None, codes}
+use Rattle.std.specs.Prelude.{◌≡◌, ℕ, true, List, [], ◌∷◌, ◌++◌, map, replicate, Some, codes}
 use Rattle.std.specs.List.{AllByRecursion, range_with_len}
-use Rattle.record.specs.declared.State.TheVariants.{Ready, Singulation, Inventoried}
+use Rattle.record.specs.declared.State.{State}
+use Rattle.record.specs.declared.State.TheVariants.{Singulation, Inventoried}
 use Rattle.record.specs.declared.Tag.{Tag}
-use Rattle.record.specs.declared.WriteMark.TheVariants.{Clear, Fresh}
-use Rattle.record.specs.Listings.{plain, locked_in, first_two, tag_with}
-use Rattle.field.specs.Listings.{numbered}
+use Rattle.record.specs.declared.WriteMark.TheVariants.{Fresh}
+use Rattle.record.specs.Records.{new_tag}
 use Rattle.layers.specs.declared.pair.Pair.{Pair}
 use Rattle.layers.specs.declared.spoiler.Spoiler.{Spoiler}
 use Rattle.field_cases.specs.declared.building.Parts.{Parts}
@@ -32,6 +33,31 @@ use Rattle.field_cases.specs.Builds.{parts_tags}
 use Rattle.field_cases.specs.Fingerprints.{fingerprint, tags_fingerprint}
 use Rattle.field_cases.specs.Nestings.{node_tags}
 use Rattle.field_cases.specs.Questions.{first_word, behind_first, IsOneWord, SpellsRow, SpellsSending}
+
+-- A new tag of the bytes 40 to 77, no two alike.
+abbrev pub plain : Tag
+plain = new_tag (range_with_len 0x40 56)
+
+-- The same with every part set.
+abbrev pub full : Tag
+full =
+    record plain {
+      locks = replicate 56 true;
+      state = Inventoried;
+      identified = true;
+      counter = 0xff;
+      mark = Fresh;
+      permission = Some 0x37;
+    }
+
+-- A tag of which only the serial number's last byte is not 00, in some state, with some counter.
+abbrev pub numbered : ℕ → State → ℕ → Tag
+numbered n state counter =
+    record (new_tag (replicate 7 0x00 ++ n ∷ replicate 48 0x00)) { state = state; counter = counter }
+
+-- So many of them, numbered on from this one.
+abbrev pub numbered_from : ℕ → ℕ → State → ℕ → List Tag
+numbered_from first count state counter = map (λ n. numbered n state counter) (range_with_len first count)
 
 -- A spoiler that spoils each third lone reply and has heard none yet, and a pair, over what stands for fields.
 abbrev pub spoiler : List Tag → Spoiler (List Tag)
@@ -62,11 +88,11 @@ fn value(fingerprint: &Fingerprint) -> Term {
 }
 
 fn of_bytes() -> Listing {
-    let taken = |all: &[u8]| row(&[stretch(all), value(&Fingerprint::of(all))]);
+    let taken = |all: &[u8]| row(&[single_stretch(all), value(&Fingerprint::of(all))]);
     Listing {
         about: "Bytes, and their fingerprint.",
         name: "BytesTaken",
-        law: "{X = List ℕ × ℕ} (λ x. fingerprint x.0 ≡ x.1)",
+        law: "{X = List ℕ × ℕ} (λ (bytes, value). fingerprint bytes ≡ value)".into(),
         rows: vec![
             taken(&[]),
             taken(&[0x00]),
@@ -77,24 +103,36 @@ fn of_bytes() -> Listing {
     }
 }
 
+/// The plain tag with every part set.
+fn full() -> Tag {
+    Tag {
+        locks: Locks([0xFF; 7]),
+        ..busy(State::Inventoried)
+    }
+}
+
+/// A tag that is plain but for some parts, or numbered.
+fn taken_term(tag: &Tag) -> Term {
+    let plain = plain();
+    if *tag == full() {
+        return Term::word("full");
+    }
+    if tag.memory == plain.memory {
+        return tag_like(Term::word("plain"), &plain, tag);
+    }
+    tag_term(tag)
+}
+
 fn of_tags() -> Listing {
     let taken = |tags: &[Tag]| {
         let mut fingerprint = Fingerprint::new();
         for each in tags {
             take_in(&mut fingerprint, each);
         }
-        let tags: Vec<Term> = tags.iter().map(tag).collect();
+        let tags: Vec<Term> = tags.iter().map(taken_term).collect();
         row(&[Term::list(&tags), value(&fingerprint)])
     };
-    let used = Tag {
-        locks: Locks([0xFF; 7]),
-        state: State::Inventoried,
-        id_flag: true,
-        counter: 0xFF,
-        mark: 2,
-        permission: Some(0x37),
-        ..plain()
-    };
+    let used = full();
     let permitted = Tag {
         permission: Some(0x00),
         ..plain()
@@ -103,7 +141,7 @@ fn of_tags() -> Listing {
     Listing {
         about: "Tags, and their fingerprint.",
         name: "TagsTaken",
-        law: "{X = List Tag × ℕ} (λ x. tags_fingerprint x.0 ≡ x.1)",
+        law: "{X = List Tag × ℕ} (λ (tags, value). tags_fingerprint tags ≡ value)".into(),
         rows: vec![
             taken(&[]),
             taken(&[plain()]),
@@ -123,7 +161,7 @@ fn split_words() -> Listing {
     Listing {
         about: "Texts, what stands in front of the first space, and what stands behind it.",
         name: "SplitWords",
-        law: "{X = List ℕ × List ℕ × List ℕ} (λ x. (first_word x.0 ≡ x.1) × (behind_first x.0 ≡ x.2))",
+        law: "{X = String × String × String}\n    (λ (text, word, rest). (first_word (codes text) ≡ codes word) × (behind_first (codes text) ≡ codes rest))".into(),
         rows: ["gap 250", "send 00 0 -", " two", "one ", "a  b", " "]
             .map(split)
             .to_vec(),
@@ -134,10 +172,8 @@ fn single_words() -> Listing {
     Listing {
         about: "Texts without a space.",
         name: "SingleWords",
-        law: "IsOneWord",
-        rows: ["", "end"]
-            .map(|word| text(word).text().to_string())
-            .to_vec(),
+        law: "(λ text. IsOneWord (codes text))".into(),
+        rows: ["", "end"].map(|word| row(&[text(word)])).to_vec(),
     }
 }
 
@@ -149,7 +185,7 @@ fn rows_of_coins() -> Listing {
     Listing {
         about: "Texts, and the row of coins that they spell.",
         name: "SpeltRows",
-        law: "{X = List ℕ × ℕ} (λ x. SpellsRow x.0 x.1)",
+        law: "{X = String × ℕ} (λ (text, row). SpellsRow (codes text) row)".into(),
         rows: [
             "0000000000000000",
             "0000000000000001",
@@ -173,12 +209,12 @@ fn sendings() -> Listing {
         else {
             panic!("the text spells a send");
         };
-        row(&[text(words), wide(coins), number(room), bytes(&frame)])
+        row(&[text(words), wide(coins), number(room), single_bytes(&frame)])
     };
     Listing {
         about: "Texts, and the row of coins, the room and the frame that they spell.",
         name: "SpeltSendings",
-        law: "{X = List ℕ × ℕ × ℕ × List ℕ} (λ x. SpellsSending x.0 x.1 x.2 x.3)",
+        law: "{X = String × ℕ × ℕ × List ℕ}\n    (λ (text, row, room, frame). SpellsSending (codes text) row room frame)".into(),
         rows: [
             "0000000000000000 0 -",
             "0000000000000001 +9 00",
@@ -206,7 +242,7 @@ fn nested(
     bare: &str,
     spoiled: impl Fn(Term) -> Term,
     paired: impl Fn(Term, Term) -> Term,
-) -> String {
+) -> Row {
     let nesting = Nesting::read(words).expect("the words are right");
     let tags = selected(0..nesting.places() as u8);
     let term = match &nesting {
@@ -234,7 +270,7 @@ fn parts() -> Listing {
     Listing {
         about: "What a layer is made of, and the tags of that.",
         name: "PartsTaken",
-        law: "{X = Parts (List Tag) × List Tag} (λ x. parts_tags (λ tags. tags) x.0 ≡ x.1)",
+        law: "{X = Parts (List Tag) × List Tag} (λ (made, tags). parts_tags (λ field. field) made ≡ tags)".into(),
         rows: NESTINGS.map(nested).to_vec(),
     }
 }
@@ -251,7 +287,7 @@ fn nodes() -> Listing {
     Listing {
         about: "Fields with a layer or none, and their tags.",
         name: "NodesNested",
-        law: "{X = Node (List Tag) × List Tag} (λ x. node_tags (λ tags. tags) x.0 ≡ x.1)",
+        law: "{X = Node (List Tag) × List Tag} (λ (made, tags). node_tags (λ field. field) made ≡ tags)".into(),
         rows: NESTINGS.map(nested).to_vec(),
     }
 }

@@ -1,14 +1,18 @@
 //! Opening and making, with every refusal.
 
-use super::listing::{file as file_of, named_row, row, Listing};
-use super::term::{byte, bytes, command, number, parameter, stretch, Term};
+use super::listing::{file as file_of, row, Listing, Row};
+use super::term::{byte, command, digits, number, parameter, stretch, Term};
+use super::words::OLD;
 use crate::frame::{make, open, sealed, sealed_with, Part, COMMANDS};
 
 const HEAD: &str = "\
 -- Opening and making at the limits, by the second implementation, which wrote this file. Assumes nothing.
-use Rattle.std.specs.Prelude.{◌≡◌, ℕ, List, [], ◌∷◌, ◌++◌, length, replicate}
-use Rattle.std.specs.List.{AllByRecursion, range_with_len}
-use Rattle.protocol.specs.declared.command.Command.TheVariants.{Select, UnselectNe, UnselectIdFlag, UnselectNoidFlag, Query, Scroll, Repeat, Reset, Read, Verify, Lock, Qlock, ReadFlexible, Write}
+use Prim.Native.String.{String}
+use Rattle.std.specs.Prelude.{◌≡◌, ℕ, List, [], ◌∷◌, ◌++◌, replicate}
+use Rattle.std.specs.List.{AllByRecursion}
+use Rattle.protocol.specs.declared.command.Command.TheVariants.{Select, UnselectNe, UnselectIdFlag, UnselectNoidFlag}
+use Rattle.protocol.specs.declared.command.Command.TheVariants.{Query, Scroll, Repeat, Reset, Read, Verify, Lock}
+use Rattle.protocol.specs.declared.command.Command.TheVariants.{Qlock, ReadFlexible, Write}
 use Rattle.protocol.specs.declared.command.Parameter.{Parameter}
 use Rattle.protocol.specs.declared.command.Parameter.TheVariants.{Serial, Address, Mask, Word, Data, Length, Ignored}
 use Rattle.protocol.specs.Refusals.{Answer, told, denied}
@@ -16,21 +20,11 @@ use Rattle.frame.specs.Makings.{making, answering, leaving}
 use Rattle.frame.specs.Openings.{Opening, refused, opened, opening}
 use Rattle.frame.specs.Parts.{Part}
 use Rattle.frame.specs.Writing.{laid}
+use Rattle.worked_cases.specs.Words.{bytes, used}
 
-abbrev pub part : Parameter → ℕ → List ℕ → Part
-part parameter offset bytes = record { parameter = parameter; offset = offset; bytes = bytes }
-
--- A code and parameters, a buffer, the answer of making and the buffer after it.
-pub record MakingCase : Type 0 where
-  pub code : ℕ
-  pub parameters : List ℕ
-  pub before : List ℕ
-  pub answer : Answer
-  pub after : List ℕ
+abbrev pub part : Parameter → ℕ → String → Part
+part parameter offset held = record { parameter = parameter; offset = offset; bytes = bytes held }
 ";
-
-/// What lies in a buffer before it is filled.
-const OLD: u8 = 0xA5;
 
 /// The longest parameters of a command.
 const MOST: usize = 14;
@@ -47,9 +41,10 @@ fn counted(length: usize) -> Vec<u8> {
     (0..length).map(|place| place as u8 + 0x30).collect()
 }
 
+/// What opening shows, or the number of its refusal.
 fn opening(bytes: &[u8]) -> Term {
     match open(bytes) {
-        Err(refusal) => Term::call("refused", &[number(refusal as u8)]),
+        Err(refusal) => number(refusal as u8),
         Ok(opened) => {
             let parts: Vec<Term> = opened
                 .parts
@@ -66,12 +61,12 @@ fn part_term(part: &Part, frame: &[u8]) -> Term {
     let held = &frame[part.offset..part.offset + part.length];
     Term::call(
         "part",
-        &[parameter(part.name), number(part.offset), bytes(held)],
+        &[parameter(part.name), number(part.offset), digits(held)],
     )
 }
 
-fn opened_row(frame: &[u8]) -> String {
-    row(&[bytes(frame), opening(frame)])
+fn opened_row(frame: &[u8]) -> Row {
+    row(&[digits(frame), opening(frame)])
 }
 
 fn opened_frames() -> Listing {
@@ -82,7 +77,7 @@ fn opened_frames() -> Listing {
     Listing {
         about: "A frame of each command, and what opening shows of it.",
         name: "OpenedFrames",
-        law: "{X = List ℕ × Opening} (λ x. opening x.0 ≡ x.1)",
+        law: "{X = String × Opening} (λ (frame, shown). opening (bytes frame) ≡ shown)".into(),
         rows: COMMANDS.iter().map(frame).collect(),
     }
 }
@@ -117,25 +112,24 @@ fn refused_frames() -> Listing {
     Listing {
         about: "Byte strings that open as nothing, each with the number of its refusal.",
         name: "RefusedFrames",
-        law: "{X = List ℕ × Opening} (λ x. opening x.0 ≡ x.1)",
+        law: "{X = String × ℕ} (λ (frame, number). opening (bytes frame) ≡ refused number)".into(),
         rows: frames.iter().map(|frame| opened_row(frame)).collect(),
     }
 }
 
-fn made_row(code: u8, length: usize, room: usize) -> String {
+fn made_row(code: u8, length: usize, room: usize) -> Row {
     let parameters = counted(length);
-    let before = vec![OLD; room];
-    let mut after = before.clone();
+    let mut after = vec![OLD; room];
     let answer = match make(code, &parameters, &mut after) {
         Ok(length) => Term::call("told", &[number(length)]),
         Err(refusal) => Term::call("denied", &[number(refusal as u8)]),
     };
-    named_row(&[
-        ("code", byte(code)),
-        ("parameters", bytes(&parameters)),
-        ("before", stretch(&before)),
-        ("answer", answer),
-        ("after", stretch(&after)),
+    row(&[
+        byte(code),
+        digits(&parameters),
+        number(room),
+        answer,
+        stretch(&after),
     ])
 }
 
@@ -159,9 +153,9 @@ fn makings() -> Listing {
         (0xFF, MOST + 3, 0),
     ];
     Listing {
-        about: "Making with room enough, with room one byte short, and with what makes no frame.",
+        about: "A code and parameters, how long the buffer is, the answer of making, and the buffer after it: with room enough, with\n-- room one byte short, and with what makes no frame.",
         name: "MadeFrames",
-        law: "{X = MakingCase}\n    (λ x. (answering (making x.code x.parameters (length x.before)) ≡ x.answer)\n    × (leaving (making x.code x.parameters (length x.before)) x.before ≡ x.after))",
+        law: "{X = ℕ × String × ℕ × Answer × List ℕ}\n    (λ (code, parameters, room, answer, after).\n    (answering (making code (bytes parameters) room) ≡ answer)\n    × (leaving (making code (bytes parameters) room) (used room) ≡ after))".into(),
         rows: rows
             .iter()
             .map(|&(code, length, room)| made_row(code, length, room))
@@ -171,21 +165,15 @@ fn makings() -> Listing {
 
 fn laid_bytes() -> Listing {
     let laid = |&(room, place, length): &(usize, usize, usize)| {
-        let before = vec![OLD; room];
-        let bytes = counted(length);
-        let mut after = before.clone();
-        after[place..place + length].copy_from_slice(&bytes);
-        row(&[
-            stretch(&before),
-            number(place),
-            super::term::bytes(&bytes),
-            stretch(&after),
-        ])
+        let given = counted(length);
+        let mut after = vec![OLD; room];
+        after[place..place + length].copy_from_slice(&given);
+        row(&[number(room), number(place), digits(&given), stretch(&after)])
     };
     Listing {
-        about: "A buffer, a place in it, bytes, and the buffer once they are laid over it there.",
+        about: "How long a buffer is, a place in it, bytes, and the buffer once they are laid over it there.",
         name: "LaidBytes",
-        law: "{X = List ℕ × ℕ × List ℕ × List ℕ} (λ x. laid x.0 x.1 x.2 ≡ x.3)",
+        law: "{X = ℕ × ℕ × String × List ℕ}\n    (λ (room, place, given, after). laid (used room) place (bytes given) ≡ after)".into(),
         rows: [
             (0, 0, 0),
             (4, 0, 0),
@@ -214,7 +202,7 @@ mod tests {
             Refusal::UnknownCode,
             Refusal::WrongLength,
         ] {
-            assert!(text.contains(&format!("refused {}", refusal as u8)));
+            assert!(text.contains(&format!("\", {})", refusal as u8)));
         }
     }
 }

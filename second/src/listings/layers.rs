@@ -8,37 +8,25 @@ use crate::layers::{Pair, Spoiler};
 
 const HEAD: &str = "\
 -- Pairs and spoilers at the limits, by the second implementation, which wrote this file. Assumes nothing.
-use Rattle.std.specs.Prelude.{◌≡◌, ℕ, cond, List, [], ◌∷◌, map, Some, None, Option}
-use Rattle.std.specs.List.{AllByRecursion, range_with_len}
+use Rattle.std.specs.Prelude.{◌≡◌, ℕ, cond, List, [], ◌∷◌, Some, None, Option}
+use Rattle.std.specs.List.{AllByRecursion}
 use Rattle.record.specs.declared.State.TheVariants.{Singulation}
 use Rattle.record.specs.declared.Tag.{Tag}
 use Rattle.field.specs.declared.hearing.Hearing.{Hearing}
 use Rattle.field.specs.declared.hearing.Hearing.TheVariants.{Silence, Lone, Clash}
-use Rattle.field.specs.Listings.{numbered}
 use Rattle.field.specs.Sends.{row_behind}
 use Rattle.layers.specs.Pairs.{fits, paired}
 use Rattle.layers.specs.Spoilers.{lones, spoiled}
+use Rattle.worked_cases.specs.Words.{numbered, numbered_from}
 
 -- The tags of a pair, if it is made.
 abbrev pub pair_made : List Tag → List Tag → Option (List Tag)
 pair_made left right = cond (fits left right) (Some (paired left right)) None
 ";
 
-const TAIL: &str = "
--- What a pair rests on.
-pub record PairCases : Type 0 where
-  pub made : PairsMade
-  pub rows : RowsBehind
-
--- What a spoiler rests on.
-pub record SpoilerCases : Type 0 where
-  pub lones : LonesCounted
-  pub heard : HeardSpoiled
-";
-
 pub fn file() -> String {
     let listings = [pairs(), rows_behind(), lones(), spoils()];
-    file_of(HEAD, &listings) + TAIL
+    file_of(HEAD, &listings)
 }
 
 fn pairs() -> Listing {
@@ -63,7 +51,7 @@ fn pairs() -> Listing {
     Listing {
         about: "Two sides, and the tags of the pair, if there are not too many for one.",
         name: "PairsMade",
-        law: "{X = List Tag × List Tag × Option (List Tag)} (λ x. pair_made x.0 x.1 ≡ x.2)",
+        law: "{X = List Tag × List Tag × Option (List Tag)} (λ (left, right, made). pair_made left right ≡ made)".into(),
         rows: sides.iter().map(paired).collect(),
     }
 }
@@ -92,7 +80,7 @@ fn rows_behind() -> Listing {
         about:
             "How many places there are on the left of a pair, its row, and the row of its right.",
         name: "RowsBehind",
-        law: "{X = ℕ × ℕ × ℕ} (λ x. row_behind x.0 x.1 ≡ x.2)",
+        law: "{X = ℕ × ℕ × ℕ} (λ (border, row, behind). row_behind border row ≡ behind)".into(),
         rows,
     }
 }
@@ -122,7 +110,7 @@ fn lones() -> Listing {
     Listing {
         about: "What is heard from below, and how many lone replies that is.",
         name: "LonesCounted",
-        law: "{X = Hearing × ℕ} (λ x. lones x.0 ≡ x.1)",
+        law: "{X = Hearing × ℕ} (λ (below, count). lones below ≡ count)".into(),
         rows: [0, 1, 2].map(counted).into(),
     }
 }
@@ -158,7 +146,7 @@ fn spoils() -> Listing {
         about:
             "A period, which lone reply it would be, what is heard from below, and what is heard.",
         name: "HeardSpoiled",
-        law: "{X = ℕ × ℕ × Hearing × Hearing} (λ x. spoiled x.0 x.1 x.2 ≡ x.3)",
+        law: "{X = ℕ × ℕ × Hearing × Hearing}\n    (λ (period, which, below, heard). spoiled period which below ≡ heard)".into(),
         rows: cases.iter().map(spoiled).collect(),
     }
 }

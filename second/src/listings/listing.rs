@@ -2,6 +2,7 @@
 
 use std::fmt;
 
+use super::layout::lines;
 use super::term::Term;
 
 /// A proposition over one listing: what is said of each row, and the rows.
@@ -10,8 +11,8 @@ pub struct Listing {
     pub about: &'static str,
     pub name: &'static str,
     /// What is said of each row, as a term.
-    pub law: &'static str,
-    pub rows: Vec<String>,
+    pub law: String,
+    pub rows: Vec<Row>,
 }
 
 impl fmt::Display for Listing {
@@ -21,24 +22,45 @@ impl fmt::Display for Listing {
         } = self;
         write!(
             out,
-            "\n-- {about}\nunfoldable pub {name} : Type 0\n{name} =\n    AllByRecursion {law}\n    ({}\n    ∷ [])\n",
-            self.rows.join("\n    ∷ ")
+            "\n-- {about}\nunfoldable pub {name} : Type 0\n{name} =\n    AllByRecursion {law}\n{}",
+            lines(&self.rows)
         )
     }
 }
 
-/// A row of parts in their order.
-pub fn row(parts: &[Term]) -> String {
-    Term::tuple(parts).text().to_string()
+/// What one case has, in the order in which the law names it.
+#[derive(Clone, PartialEq)]
+pub struct Row {
+    /// The word that makes a row of its parts, where rows are longer than a line: a tuple over several lines has one for
+    /// each part.
+    pub word: Option<&'static str>,
+    pub parts: Vec<String>,
 }
 
-/// A row of parts by their names.
-pub fn named_row(parts: &[(&str, Term)]) -> String {
-    let mut text = "record {\n".to_string();
-    for (name, term) in parts {
-        text += &format!("      {name} = {};\n", term.text());
+impl Row {
+    pub fn text(&self) -> String {
+        let parts = &self.parts;
+        match self.word {
+            Some(word) => format!("{word} {}", parts.join(" ")),
+            None if parts.len() == 1 => parts[0].clone(),
+            None => format!("({})", parts.join(", ")),
+        }
     }
-    text + "    }"
+}
+
+pub fn row(parts: &[Term]) -> Row {
+    Row {
+        word: None,
+        parts: parts.iter().map(|part| part.text().to_string()).collect(),
+    }
+}
+
+/// A row by the word that makes it.
+pub fn row_by(word: &'static str, parts: &[Term]) -> Row {
+    Row {
+        word: Some(word),
+        parts: parts.iter().map(Term::argument).collect(),
+    }
 }
 
 /// A file: what stands before the listings, and these.

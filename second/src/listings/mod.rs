@@ -1,4 +1,4 @@
-//! Worked cases at the limits, each kind a proposition for the prover: whole files of definitions, one for each crate.
+//! Worked cases at the limits, each kind a proposition for the prover: whole files of definitions, one for each subject.
 
 mod bench;
 mod crc;
@@ -7,6 +7,7 @@ mod field;
 mod field_cases;
 mod frame;
 mod layers;
+mod layout;
 mod listing;
 mod panel;
 mod protocol;
@@ -17,41 +18,74 @@ mod spelling;
 mod sweep;
 mod tag;
 mod term;
+mod words;
 
-/// Each crate that has such a file, with the file.
-pub fn files() -> [(&'static str, String); 14] {
+/// The files of the crate of worked cases, by their modules.
+fn subjects() -> [(&'static str, String); 13] {
     [
-        ("bench", bench::file()),
-        ("crc", crc::file()),
-        ("field", field::file()),
-        ("field_cases", field_cases::file()),
-        ("frame", frame::file()),
-        ("layers", layers::file()),
-        ("panel", panel::file()),
-        ("protocol", protocol::file()),
-        ("record", record::file()),
-        ("reply", reply::file()),
-        ("sheet", sheet::file()),
-        ("spelling", spelling::file()),
-        ("sweep", sweep::file()),
-        ("tag", tag::file()),
+        ("Bench", bench::file()),
+        ("Crc", crc::file()),
+        ("Field", field::file()),
+        ("Frame", frame::file()),
+        ("Layers", layers::file()),
+        ("Protocol", protocol::file()),
+        ("Record", record::file()),
+        ("Reply", reply::file()),
+        ("Sheet", sheet::file()),
+        ("Spelling", spelling::file()),
+        ("Sweep", sweep::file()),
+        ("Tag", tag::file()),
+        ("Words", words::file()),
     ]
+}
+
+/// Each file by its path among the crates. What no crate can stand on has its own.
+pub fn files() -> Vec<(String, String)> {
+    let subjects = subjects();
+    let modules = subjects.iter().map(|(name, _)| format!("pub mod {name}\n"));
+    let mut files = vec![
+        (
+            "field_cases/specs/Listings.antt".to_string(),
+            field_cases::file(),
+        ),
+        ("panel/specs/Listings.antt".to_string(), panel::file()),
+        ("worked_cases/specs/Lib.antt".to_string(), modules.collect()),
+    ];
+    files.extend(subjects.map(|(name, text)| (format!("worked_cases/specs/{name}.antt"), text)));
+    files
 }
 
 #[cfg(test)]
 mod tests {
     use super::*;
 
+    /// Whether a list ends just where the listing does.
+    fn ends_once(listing: &str) -> bool {
+        let end = "∷ [])\n\n";
+        (listing.to_string() + "\n").matches(end).count() == 1
+    }
+
     #[test]
     fn every_file_is_whole() {
         for (name, text) in files() {
-            assert!(text.starts_with("-- ") && text.ends_with('\n'), "{name}");
-            assert!(!text.contains("()") && !text.contains("  ]"), "{name}");
-            let listings = text.matches("AllByRecursion ").count();
-            assert_eq!(text.matches("\n    ∷ [])\n").count(), listings, "{name}");
-            let used = text.matches("AllByRecursion}").count();
-            let also = text.matches("AllByRecursion,").count();
-            assert_eq!(used + also, 1, "{name}");
+            assert!(text.ends_with('\n') && !text.contains("()"), "{name}");
+            let mut listings = text.split("AllByRecursion ").skip(1).peekable();
+            let imports =
+                ["AllByRecursion}", "AllByRecursion,"].map(|word| text.matches(word).count());
+            assert_eq!(
+                imports.iter().sum::<usize>(),
+                usize::from(listings.peek().is_some()),
+                "{name}"
+            );
+            assert!(listings.all(|listing| ends_once(listing)), "{name}");
+        }
+    }
+
+    #[test]
+    fn every_line_can_be_read() {
+        for (name, text) in files() {
+            let longest = text.lines().map(|line| line.chars().count()).max();
+            assert!(longest < Some(120), "{name}: {longest:?}");
         }
     }
 }

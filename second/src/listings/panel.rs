@@ -1,25 +1,20 @@
 //! What the panel is shown of a frame.
 
-use super::listing::{file as file_of, named_row, Listing};
-use super::term::{bytes, number, stretch};
+use super::listing::{file as file_of, row_by, Listing, Row};
+use super::term::{number, single_stretch};
+use super::words::OLD;
 use crate::frame::{open, sealed, sealed_with, Opened, Refusal, COMMANDS};
 
 const HEAD: &str = "\
 -- What the panel is shown at the limits, by the second implementation, which wrote this file. Assumes nothing.
-use Rattle.std.specs.Prelude.{◌≡◌, ℕ, List, [], ◌∷◌, ◌++◌, length, replicate}
+use Rattle.std.specs.Prelude.{◌≡◌, ℕ, List, [], ◌∷◌, ◌++◌, replicate}
 use Rattle.std.specs.List.{AllByRecursion}
 use Rattle.frame.specs.Openings.{opening}
 use Rattle.panel.specs.Shown.{answering, leaving}
 
--- A frame, the panel's bytes, the answer, and the bytes after it.
-pub record PanelCase : Type 0 where
-  pub frame : List ℕ
-  pub before : List ℕ
-  pub answer : ℕ
-  pub after : List ℕ
-
-abbrev pub Shows : PanelCase → Type 0
-Shows x = (answering (opening x.frame) (length x.before) ≡ x.answer) × (leaving (opening x.frame) x.before ≡ x.after)
+-- A frame, how many bytes the panel has, the answer, and those bytes after it.
+abbrev pub shown : List ℕ → ℕ → ℕ → List ℕ → List ℕ × ℕ × ℕ × List ℕ
+shown frame room answer after = (frame, room, answer, after)
 ";
 
 /// The parameters in the order in which the panel has them.
@@ -35,8 +30,6 @@ const PLACES: [&str; 7] = [
 
 /// The code, and two bytes for each parameter.
 const SHOWN: usize = 1 + 2 * PLACES.len();
-
-const OLD: u8 = 0xA5;
 
 pub fn file() -> String {
     file_of(HEAD, &[shown_frames()])
@@ -62,22 +55,24 @@ fn show(frame: &[u8], buffer: &mut [u8]) -> Result<(), Refusal> {
     Ok(())
 }
 
-fn row(frame: &[u8], room: usize) -> String {
-    let before = vec![OLD; room];
-    let mut after = before.clone();
+fn row(frame: &[u8], room: usize) -> Row {
+    let mut after = vec![OLD; room];
     let answer = show(frame, &mut after)
         .err()
         .map_or(0, |refusal| refusal as u8);
-    named_row(&[
-        ("frame", bytes(frame)),
-        ("before", stretch(&before)),
-        ("answer", number(answer)),
-        ("after", stretch(&after)),
-    ])
+    row_by(
+        "shown",
+        &[
+            single_stretch(frame),
+            number(room),
+            number(answer),
+            single_stretch(&after),
+        ],
+    )
 }
 
 fn shown_frames() -> Listing {
-    let mut rows: Vec<String> = COMMANDS
+    let mut rows: Vec<Row> = COMMANDS
         .iter()
         .map(|command| {
             let parameters = vec![0x5A; command.parameters_length()];
@@ -100,7 +95,7 @@ fn shown_frames() -> Listing {
     Listing {
         about: "A frame of each command, room that is longer and one byte short, and each refusal.",
         name: "ShownFrames",
-        law: "Shows",
+        law: "{X = List ℕ × ℕ × ℕ × List ℕ}\n    (λ (frame, room, answer, after). (answering (opening frame) room ≡ answer)\n    × (leaving (opening frame) (replicate room 0xa5) ≡ after))".into(),
         rows,
     }
 }

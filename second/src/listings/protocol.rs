@@ -1,6 +1,6 @@
 //! Commands, parameters and refusals, each whole, and codes that no command has.
 
-use super::listing::{file as file_of, named_row, row, Listing};
+use super::listing::{file as file_of, row, Listing, Row};
 use super::term::{byte, command, number, parameter, text, Term};
 use crate::cases::UNKNOWN_CODES;
 use crate::field;
@@ -9,10 +9,13 @@ use crate::sweep;
 
 const HEAD: &str = "\
 -- The words of the protocol, by the second implementation, which wrote this file. Assumes nothing.
+use Prim.Native.String.{String}
 use Rattle.std.specs.Prelude.{◌≡◌, ℕ, List, [], ◌∷◌, map, Some, None, codes}
 use Rattle.std.specs.List.{AllByRecursion}
 use Rattle.protocol.specs.declared.command.Command.{Command}
-use Rattle.protocol.specs.declared.command.Command.TheVariants.{Select, UnselectNe, UnselectIdFlag, UnselectNoidFlag, Query, Scroll, Repeat, Reset, Read, Verify, Lock, Qlock, ReadFlexible, Write}
+use Rattle.protocol.specs.declared.command.Command.TheVariants.{Select, UnselectNe, UnselectIdFlag, UnselectNoidFlag}
+use Rattle.protocol.specs.declared.command.Command.TheVariants.{Query, Scroll, Repeat, Reset, Read, Verify, Lock}
+use Rattle.protocol.specs.declared.command.Command.TheVariants.{Qlock, ReadFlexible, Write}
 use Rattle.protocol.specs.declared.command.Parameter.{Parameter}
 use Rattle.protocol.specs.declared.command.Parameter.TheVariants.{Serial, Address, Mask, Word, Data, Length, Ignored}
 use Rattle.protocol.specs.declared.refusal.Refusal.{Refusal}
@@ -20,24 +23,15 @@ use Rattle.protocol.specs.declared.refusal.Refusal.TheVariants as refusal
 use Rattle.protocol.specs.Commands.{code_of, layout, size_of, length_of, commands, named, entry_of, first_entry}
 use Rattle.protocol.specs.Names.{command_name, parameter_name, refusal_name}
 use Rattle.protocol.specs.Refusals.{number_of}
-
--- A command with its name, its code, its parameters in their order, and the length of its frame.
-pub record CommandCase : Type 0 where
-  pub command : Command
-  pub name : List ℕ
-  pub code : ℕ
-  pub parameters : List Parameter
-  pub length : ℕ
-
--- What is said of a command, and what is found by its code.
-pub record Listed (x : CommandCase) : Type 0 where
-  pub name : command_name x.command ≡ x.name
-  pub code : code_of x.command ≡ x.code
-  pub parameters : layout x.command ≡ x.parameters
-  pub length : length_of x.command ≡ x.length
-  pub known : named x.code ≡ Some x.command
-  pub entry : first_entry x.code (map entry_of commands) ≡ Some (record { command = x.command; code = x.code; length = x.length })
 ";
+
+/// What is said of a command, and what is found by its code.
+const COMMAND_LAW: &str = "{X = Command × String × ℕ × List Parameter × ℕ}
+    (λ (command, name, code, parameters, length).
+    (command_name command ≡ codes name) × (code_of command ≡ code) × (layout command ≡ parameters)
+    × (length_of command ≡ length) × (named code ≡ Some command)
+    × (first_entry code (map entry_of commands)
+    ≡ Some (record { command = command; code = code; length = length })))";
 
 pub fn file() -> String {
     file_of(
@@ -73,18 +67,18 @@ fn commands() -> Listing {
             .iter()
             .map(|part| parameter(part.name))
             .collect();
-        named_row(&[
-            ("command", command(each.name)),
-            ("name", text(name(each.name))),
-            ("code", byte(each.code)),
-            ("parameters", Term::list(&parameters)),
-            ("length", number(each.frame_length())),
+        row(&[
+            command(each.name),
+            text(name(each.name)),
+            byte(each.code),
+            Term::list(&parameters),
+            number(each.frame_length()),
         ])
     };
     Listing {
-        about: "The fourteen commands.",
+        about: "The fourteen commands, each with its name, its code, its parameters in their order, and its frame's length.",
         name: "CommandsListed",
-        law: "Listed",
+        law: COMMAND_LAW.into(),
         rows: COMMANDS.iter().map(listed).collect(),
     }
 }
@@ -93,16 +87,17 @@ fn unknown_codes() -> Listing {
     Listing {
         about: "Codes that no command has, most of them one bit away from one.",
         name: "UnknownCodes",
-        law: "(λ x. (named x ≡ None) × (first_entry x (map entry_of commands) ≡ None))",
+        law: "(λ code. (named code ≡ None) × (first_entry code (map entry_of commands) ≡ None))"
+            .into(),
         rows: UNKNOWN_CODES
             .iter()
-            .map(|&code| byte(code).text().to_string())
+            .map(|&code| row(&[byte(code)]))
             .collect(),
     }
 }
 
 fn parameters() -> Listing {
-    let mut rows: Vec<String> = Vec::new();
+    let mut rows: Vec<Row> = Vec::new();
     for part in COMMANDS.iter().flat_map(Command::parts) {
         let row = row(&[parameter(part.name), text(part.name), number(part.length)]);
         if !rows.contains(&row) {
@@ -112,7 +107,7 @@ fn parameters() -> Listing {
     Listing {
         about: "The parameters, with their names and how many bytes each has.",
         name: "ParametersListed",
-        law: "{X = Parameter × List ℕ × ℕ} (λ x. (parameter_name x.0 ≡ x.1) × (size_of x.0 ≡ x.2))",
+        law: "{X = Parameter × String × ℕ}\n    (λ (parameter, name, size). (parameter_name parameter ≡ codes name) × (size_of parameter ≡ size))".into(),
         rows,
     }
 }
@@ -141,7 +136,7 @@ fn refusals() -> Listing {
     Listing {
         about: "The refusals, with their numbers and names.",
         name: "RefusalsListed",
-        law: "{X = Refusal × ℕ × List ℕ} (λ x. (number_of x.0 ≡ x.1) × (refusal_name x.0 ≡ x.2))",
+        law: "{X = Refusal × ℕ × String}\n    (λ (refusal, number, name). (number_of refusal ≡ number) × (refusal_name refusal ≡ codes name))".into(),
         rows: REFUSALS.iter().map(listed).collect(),
     }
 }

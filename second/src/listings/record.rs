@@ -2,7 +2,7 @@
 
 use super::listing::{file as file_of, row, Listing};
 use super::term::{
-    byte, bytes, mark, memory, number, plain, plain_memory, state, tag, text, truth,
+    busy, byte, digits, locks, mark, memory, number, plain, plain_memory, state, tag, text, truth,
 };
 use crate::frame::{sealed_with, Name, Refusal};
 use crate::order::{selects, Comparison, Order};
@@ -12,8 +12,9 @@ use State::{Inventoried, Ready, Singulation};
 
 const HEAD: &str = "\
 -- The record of a tag at the limits, by the second implementation, which wrote this file. Assumes nothing.
-use Rattle.std.specs.Prelude.{◌≡◌, ℕ, Bool, true, false, List, [], ◌∷◌, ◌++◌, map, replicate, Some, None, codes, Option, ◌==◌}
-use Rattle.std.specs.List.{AllByRecursion, list_any, range_with_len}
+use Prim.Native.String.{String}
+use Rattle.std.specs.Prelude.{◌≡◌, ℕ, Bool, true, false, List, [], ◌∷◌, replicate, Some, None, codes}
+use Rattle.std.specs.List.{AllByRecursion}
 use Rattle.record.specs.declared.State.{State}
 use Rattle.record.specs.declared.State.TheVariants.{Ready, Singulation, Inventoried}
 use Rattle.record.specs.declared.WriteMark.{WriteMark}
@@ -24,31 +25,8 @@ use Rattle.record.specs.Gaps.{gapped}
 use Rattle.record.specs.Masks.{selects, matches, stored}
 use Rattle.record.specs.Names.{state_name}
 use Rattle.record.specs.Records.{byte_at, locked_at, serial_of, mark_number, fallen, is_write_ok, new_tag}
-
--- A memory of the bytes 40 to 77, no two alike.
-abbrev pub plain : List ℕ
-plain = range_with_len 0x40 56
-
--- The locks of which those at some addresses are set.
-abbrev pub locked_in : List ℕ → List Bool
-locked_in addresses = map (λ a. list_any (λ b. b == a) addresses) (range_with_len 0 56)
-
--- Those of a new tag.
-abbrev pub first_two : List Bool
-first_two = locked_in (0x00 ∷ 0x01 ∷ [])
-
--- A record by its parts in their order.
-abbrev pub tag_with : List ℕ → List Bool → State → Bool → ℕ → WriteMark → Option ℕ → Tag
-tag_with memory locks state identified counter mark permission =
-    record {
-      memory = memory;
-      locks = locks;
-      state = state;
-      identified = identified;
-      counter = counter;
-      mark = mark;
-      permission = permission;
-    }
+use Rattle.worked_cases.specs.Words.{bytes, plain, plain_but, locked_in, first_two, only_locked}
+use Rattle.worked_cases.specs.Words.{tag_of, tag_in, flagged_in, busy}
 ";
 
 pub fn file() -> String {
@@ -72,12 +50,12 @@ fn new_tags() -> Listing {
     let memories = [plain_memory(), [0x00; MEMORY_LENGTH], [0xFF; MEMORY_LENGTH]];
     let made = |held: &[u8; MEMORY_LENGTH]| {
         let new = Tag::new(*held);
-        row(&[memory(held), tag(&new), bytes(new.serial())])
+        row(&[memory(held), tag(&new), digits(new.serial())])
     };
     Listing {
         about: "56 bytes, the new tag that has them, and its serial number.",
         name: "NewTags",
-        law: "{X = List ℕ × Tag × List ℕ} (λ x. (new_tag x.0 ≡ x.1) × (serial_of x.1 ≡ x.2))",
+        law: "{X = List ℕ × Tag × String}\n    (λ (memory, tag, serial). (new_tag memory ≡ tag) × (serial_of tag ≡ bytes serial))".into(),
         rows: memories.iter().map(made).collect(),
     }
 }
@@ -94,7 +72,7 @@ fn addresses() -> Listing {
     for each in &tags {
         for address in [0x00, 0x01, 0x02, 0x37, 0x38, 0xFF] {
             rows.push(row(&[
-                tag(each),
+                locks(each.locks),
                 byte(address),
                 byte(each.byte(address.into())),
                 truth(each.locks.locked(address.into())),
@@ -102,9 +80,9 @@ fn addresses() -> Listing {
         }
     }
     Listing {
-        about: "A tag, an address, the byte there, and whether it is locked.",
+        about: "The locks of a plain tag, an address, the byte there, and whether it is locked.",
         name: "Addresses",
-        law: "{X = Tag × ℕ × ℕ × Bool} (λ x. (byte_at x.0 x.1 ≡ x.2) × (locked_at x.0 x.1 ≡ x.3))",
+        law: "{X = List Bool × ℕ × ℕ × Bool}\n    (λ (locks, address, held, locked). let tag = record (tag_in Ready 0x00) { locks = locks } in\n    (byte_at tag address ≡ held) × (locked_at tag address ≡ locked))".into(),
         rows,
     }
 }
@@ -120,7 +98,7 @@ fn selections() -> Listing {
     Listing {
         about: "A mask, a place, and whether the one selects the other.",
         name: "Selections",
-        law: "{X = ℕ × ℕ × Bool} (λ x. selects x.0 x.1 ≡ x.2)",
+        law: "{X = ℕ × ℕ × Bool} (λ (mask, place, selected). selects mask place ≡ selected)".into(),
         rows,
     }
 }
@@ -158,14 +136,14 @@ fn comparisons() -> Listing {
         row(&[
             byte(address),
             byte(mask),
-            bytes(&word),
+            digits(&word),
             truth(plain().matches(&comparison)),
         ])
     };
     Listing {
         about: "An address, a mask and a word, and whether the plain memory matches.",
         name: "Comparisons",
-        law: "{X = ℕ × ℕ × List ℕ × Bool} (λ x. matches plain x.0 x.1 x.2 ≡ x.3)",
+        law: "{X = ℕ × ℕ × String × Bool}\n    (λ (address, mask, word, matched). matches plain address mask (bytes word) ≡ matched)".into(),
         rows: cases.iter().map(compared).collect(),
     }
 }
@@ -181,7 +159,12 @@ fn storings() -> Listing {
         let parameters = [open.serial().as_slice(), &[address, mask], &data].concat();
         let frame = sealed_with(Name::Write as u8, &parameters);
         tag.step(&Order::open(&frame), false);
-        row(&[byte(address), byte(mask), bytes(&data), memory(&tag.memory)])
+        row(&[
+            byte(address),
+            byte(mask),
+            digits(&data),
+            memory(&tag.memory),
+        ])
     };
     let cases = [
         (0x00, 0x00),
@@ -200,7 +183,7 @@ fn storings() -> Listing {
     Listing {
         about: "An address, a mask and four bytes, and the plain memory once those selected are stored.",
         name: "Storings",
-        law: "{X = ℕ × ℕ × List ℕ × List ℕ} (λ x. stored x.0 x.1 x.2 plain 4 ≡ x.3)",
+        law: "{X = ℕ × ℕ × String × List ℕ}\n    (λ (address, mask, given, after). stored address mask (bytes given) plain 4 ≡ after)".into(),
         rows: cases.iter().map(stored).collect(),
     }
 }
@@ -223,7 +206,7 @@ fn marks() -> Listing {
     Listing {
         about: "A mark, its number, the mark once it has fallen, and whether it is WRITE_OK.",
         name: "Marks",
-        law: "{X = WriteMark × ℕ × WriteMark × Bool}\n    (λ x. (mark_number x.0 ≡ x.1) × (fallen x.0 ≡ x.2) × (is_write_ok x.0 ≡ x.3))",
+        law: "{X = WriteMark × ℕ × WriteMark × Bool}\n    (λ (mark, number, after, allowed).\n    (mark_number mark ≡ number) × (fallen mark ≡ after) × (is_write_ok mark ≡ allowed))".into(),
         rows: (0..=2).map(marked).collect(),
     }
 }
@@ -233,20 +216,8 @@ fn states() -> Listing {
     Listing {
         about: "The states by their names.",
         name: "States",
-        law: "{X = State × List ℕ} (λ x. state_name x.0 ≡ x.1)",
+        law: "{X = State × String} (λ (state, name). state_name state ≡ codes name)".into(),
         rows: [Ready, Singulation, Inventoried].map(named).into(),
-    }
-}
-
-/// A tag of which nothing is clear.
-fn busy(state: State) -> Tag {
-    Tag {
-        state,
-        id_flag: true,
-        counter: 0xFF,
-        mark: 2,
-        permission: Some(0x37),
-        ..plain()
     }
 }
 
@@ -262,7 +233,7 @@ fn gaps() -> Listing {
     Listing {
         about: "A tag, a gap in microseconds, and the tag after it.",
         name: "Gaps",
-        law: "{X = Tag × ℕ × Tag} (λ x. gapped x.1 x.0 ≡ x.2)",
+        law: "{X = Tag × ℕ × Tag} (λ (before, microseconds, after). gapped microseconds before ≡ after)".into(),
         rows,
     }
 }
@@ -301,11 +272,11 @@ fn likenesses() -> Listing {
             ..first.clone()
         });
     }
-    let alike = |other: &Tag| row(&[tag(&first), tag(other), truth(first == *other)]);
+    let alike = |other: &Tag| row(&[tag(other), truth(first == *other)]);
     Listing {
-        about: "Two tags, and whether they are alike: the same, and such as differ in one part.",
+        about: "Tags beside a busy one, and whether the two are alike: the same, and such as differ in one part.",
         name: "Likenesses",
-        law: "{X = Tag × Tag × Bool} (λ x. alike x.0 x.1 ≡ x.2)",
+        law: "{X = Tag × Bool} (λ (other, same). alike (busy Singulation) other ≡ same)".into(),
         rows: others.iter().map(alike).collect(),
     }
 }

@@ -1,42 +1,29 @@
 //! Bytes that are read of a memory, and replies written out.
 
-use super::listing::{file as file_of, named_row, row, Listing};
-use super::term::{byte, number, plain, stretch, tag, Term};
+use super::listing::{file as file_of, row, Listing, Row};
+use super::term::{byte, number, plain, stretch, Term};
+use super::words::OLD;
 use crate::frame::Refusal;
-use crate::tag::{Reply, Tag};
+use crate::tag::Reply;
 
 const HEAD: &str = "\
 -- Replies at the limits, by the second implementation, which wrote this file. Assumes nothing.
-use Rattle.std.specs.Prelude.{◌≡◌, ℕ, false, List, [], ◌∷◌, ◌++◌, length, replicate, None}
+use Rattle.std.specs.Prelude.{◌≡◌, ℕ, List, [], ◌∷◌, ◌++◌, replicate}
 use Rattle.std.specs.List.{AllByRecursion, range_with_len}
 use Rattle.crc.specs.Check.{sealed}
 use Rattle.protocol.specs.Refusals.{Answer, told, denied}
 use Rattle.frame.specs.Makings.{answering, leaving, writing}
 use Rattle.record.specs.declared.State.TheVariants.{Ready}
-use Rattle.record.specs.declared.WriteMark.TheVariants.{Clear}
-use Rattle.record.specs.declared.Tag.{Tag}
-use Rattle.record.specs.Listings.{plain, first_two, tag_with}
 use Rattle.record.specs.Records.{bytes_from}
 use Rattle.reply.specs.declared.Reply.{Reply}
 use Rattle.reply.specs.declared.Reply.TheVariants.{Serial, Memory, Status}
 use Rattle.reply.specs.Replies.{data_of}
+use Rattle.worked_cases.specs.Words.{bytes, used, plain, tag_in}
 
--- A tag, what it replies, a buffer, the answer of writing, and the buffer after it.
-pub record ReplyCase : Type 0 where
-  pub tag : Tag
-  pub reply : Reply
-  pub before : List ℕ
-  pub answer : Answer
-  pub after : List ℕ
-
--- What writing the reply answers and leaves.
-pub record Replied (x : ReplyCase) : Type 0 where
-  pub answer : answering (writing (sealed (data_of x.tag x.reply)) (length x.before)) ≡ x.answer
-  pub after : leaving (writing (sealed (data_of x.tag x.reply)) (length x.before)) x.before ≡ x.after
+-- What a plain tag sends for a reply.
+abbrev pub told_by_plain : Reply → List ℕ
+told_by_plain reply = sealed (data_of (tag_in Ready 0x00) reply)
 ";
-
-/// What lies in a buffer before it is filled.
-const OLD: u8 = 0xA5;
 
 pub fn file() -> String {
     file_of(HEAD, &[stretches(), replies()])
@@ -67,7 +54,7 @@ fn stretches() -> Listing {
     Listing {
         about: "An address, how many bytes from there on, and these bytes of the plain memory.",
         name: "Stretches",
-        law: "{X = ℕ × ℕ × List ℕ} (λ x. bytes_from plain x.0 x.1 ≡ x.2)",
+        law: "{X = ℕ × ℕ × List ℕ} (λ (address, length, held). bytes_from plain address length ≡ held)".into(),
         rows: cases.iter().map(read).collect(),
     }
 }
@@ -83,22 +70,20 @@ fn told(reply: Reply, is_serial: bool) -> Term {
     }
 }
 
-fn reply_row(teller: &Tag, reply: Reply, is_serial: bool, room: usize) -> String {
-    let before = vec![OLD; room];
-    let mut after = before.clone();
-    let bytes = teller.written(reply);
+fn reply_row(reply: Reply, is_serial: bool, room: usize) -> Row {
+    let mut after = vec![OLD; room];
+    let bytes = plain().written(reply);
     let answer = if bytes.len() > room {
         Term::call("denied", &[number(Refusal::NoRoom as u8)])
     } else {
         after[..bytes.len()].copy_from_slice(&bytes);
         Term::call("told", &[number(bytes.len())])
     };
-    named_row(&[
-        ("tag", tag(teller)),
-        ("reply", told(reply, is_serial)),
-        ("before", stretch(&before)),
-        ("answer", answer),
-        ("after", stretch(&after)),
+    row(&[
+        told(reply, is_serial),
+        number(room),
+        answer,
+        stretch(&after),
     ])
 }
 
@@ -107,9 +92,9 @@ fn replies() -> Listing {
         address: 0x00,
         length: 8,
     };
-    let mut rows: Vec<String> = [10, 9, 0, 12]
+    let mut rows: Vec<Row> = [10, 9, 0, 12]
         .iter()
-        .map(|&room| reply_row(&plain(), serial, true, room))
+        .map(|&room| reply_row(serial, true, room))
         .collect();
     for (address, length, room) in [
         (0x00, 1, 3),
@@ -123,7 +108,7 @@ fn replies() -> Listing {
         (0x00, 256, 257),
     ] {
         let reply = Reply::Memory { address, length };
-        rows.push(reply_row(&plain(), reply, false, room));
+        rows.push(reply_row(reply, false, room));
     }
     for (status, room) in [
         (0x00, 3),
@@ -133,12 +118,12 @@ fn replies() -> Listing {
         (0xFE, 3),
         (0xFF, 5),
     ] {
-        rows.push(reply_row(&plain(), Reply::Byte(status), false, room));
+        rows.push(reply_row(Reply::Byte(status), false, room));
     }
     Listing {
-        about: "Replies of each kind, from one byte to 256, with room enough, one byte short, and none.",
+        about: "Replies of each kind, from one byte to 256, how long the buffer is, the answer of writing, and the buffer after it.",
         name: "WrittenReplies",
-        law: "Replied",
+        law: "{X = Reply × ℕ × Answer × List ℕ}\n    (λ (reply, room, answer, after). (answering (writing (told_by_plain reply) room) ≡ answer)\n    × (leaving (writing (told_by_plain reply) room) (used room) ≡ after))".into(),
         rows,
     }
 }

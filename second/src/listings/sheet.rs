@@ -1,8 +1,8 @@
 //! Printed sheets, line by line.
 
-use super::crowd::hearing_term;
-use super::listing::{file as file_of, named_row, row, Listing};
-use super::term::{bytes, command, number, stretch, text, Term};
+use super::listing::{file as file_of, row, Listing, Row};
+use super::term::{digits, number, stretch, text, Term};
+use super::words::{report_term, slots_term, OLD};
 use crate::field::Hearing;
 use crate::frame::{Name, Refusal};
 use crate::order::Serial;
@@ -11,7 +11,8 @@ use crate::sweep::{Outcome, Slot, Stop};
 
 const HEAD: &str = "\
 -- Sheets at the limits, by the second implementation, which wrote this file. Assumes nothing.
-use Rattle.std.specs.Prelude.{◌≡◌, ℕ, List, [], ◌∷◌, ◌++◌, length, replicate, codes}
+use Prim.Native.String.{String}
+use Rattle.std.specs.Prelude.{◌≡◌, ℕ, List, [], ◌∷◌, ◌++◌, map, replicate, codes}
 use Rattle.std.specs.List.{flat_map, AllByRecursion}
 use Rattle.protocol.specs.declared.command.Command.{Command}
 use Rattle.protocol.specs.declared.command.Command.TheVariants.{Select, Query, Scroll, Write}
@@ -19,34 +20,20 @@ use Rattle.protocol.specs.Refusals.{Answer, told, denied}
 use Rattle.frame.specs.Makings.{answering, leaving, writing}
 use Rattle.field.specs.declared.hearing.Hearing.{Hearing}
 use Rattle.field.specs.declared.hearing.Hearing.TheVariants.{Silence, Lone, Clash}
-use Rattle.slot.specs.declared.row.SlotRow.{SlotRow}
-use Rattle.slot.specs.declared.ending.End.{End}
 use Rattle.slot.specs.declared.ending.End.TheVariants.{Whole, Stopped}
 use Rattle.slot.specs.declared.ending.Report.{Report}
 use Rattle.slot.specs.declared.ending.Stop.TheVariants.{Deep, Spent, Full}
 use Rattle.sheet.specs.Sheets.{column, sheet}
-
-abbrev pub slot : Command → Hearing → ℕ → SlotRow
-slot command hearing waiting = record { command = command; hearing = hearing; waiting = waiting }
-
--- The end, then lone, silent and clash slots, and commands.
-abbrev pub report : End → ℕ → ℕ → ℕ → ℕ → Report
-report end lone silent clash commands =
-    record { end = end; counts = record { lone = lone; silent = silent; clash = clash; commands = commands } }
+use Rattle.worked_cases.specs.Words.{bytes, used, slot_row, report_of}
 
 -- Texts, each ended by a line feed.
-abbrev pub lines : List (List ℕ) → List ℕ
-lines texts = flat_map (λ text. text ++ 10 ∷ []) texts
+abbrev pub lines : List String → List ℕ
+lines texts = flat_map (λ text. codes text ++ 10 ∷ []) texts
 
--- Slots, serial numbers, a report, and the lines of their sheet.
-pub record SheetCase : Type 0 where
-  pub slots : List SlotRow
-  pub serials : List (List ℕ)
-  pub report : Report
-  pub sheet : List (List ℕ)
+-- The sheet of one line whose rooms are tried.
+abbrev pub short_sheet : List ℕ
+short_sheet = sheet [] [] (report_of Whole 1 0 0 3)
 ";
-
-const OLD: u8 = 0xA5;
 
 pub fn file() -> String {
     file_of(HEAD, &[columns(), sheets(), rooms()])
@@ -65,57 +52,34 @@ fn columns() -> Listing {
     Listing {
         about: "A width, a number of one to seven digits, and its column.",
         name: "Columns",
-        law: "{X = ℕ × ℕ × List ℕ} (λ x. column x.0 x.1 ≡ x.2)",
+        law: "{X = ℕ × ℕ × String} (λ (width, number, text). column width number ≡ codes text)"
+            .into(),
         rows,
     }
 }
 
-fn report(outcome: &Outcome) -> Term {
-    let end = match outcome.end {
-        Ok(()) => Term::word("Whole"),
-        Err(stop) => Term::call(
-            "Stopped",
-            &[Term::word(match stop {
-                Stop::TooDeep => "Deep",
-                Stop::Spent => "Spent",
-                Stop::Full => "Full",
-            })],
-        ),
-    };
-    Term::call(
-        "report",
-        &[
-            end,
-            number(outcome.lone),
-            number(outcome.silent),
-            number(outcome.clash),
-            number(outcome.commands),
-        ],
-    )
-}
-
-fn sheet_row(slots: &[Slot], serials: &[Serial], outcome: Outcome) -> String {
+fn sheet_row(slots: &[Slot], serials: &[Serial], outcome: Outcome) -> Row {
     let sheet = Sheet {
         slots,
         serials,
         outcome,
     };
     let printed = sheet.to_string();
-    let lines: Vec<Term> = printed.lines().map(text).collect();
-    let slots: Vec<Term> = slots
-        .iter()
-        .map(|slot| {
-            let (name, heard) = (command(slot.name), hearing_term(slot.hearing));
-            Term::call("slot", &[name, heard, number(slot.waiting)])
-        })
-        .collect();
-    let serials: Vec<Term> = serials.iter().map(|serial| bytes(serial)).collect();
-    named_row(&[
-        ("slots", Term::list(&slots)),
-        ("serials", Term::list(&serials)),
-        ("report", report(&outcome)),
-        ("sheet", Term::list(&lines)),
+    row(&[
+        slots_term(slots),
+        Term::list(
+            &serials
+                .iter()
+                .map(|serial| digits(serial))
+                .collect::<Vec<_>>(),
+        ),
+        report_term(&outcome),
+        lines_term(&printed),
     ])
+}
+
+fn lines_term(printed: &str) -> Term {
+    Term::list(&printed.lines().map(text).collect::<Vec<_>>())
 }
 
 fn slot(name: Name, hearing: Hearing, waiting: u8) -> Slot {
@@ -153,7 +117,7 @@ fn sheets() -> Listing {
     Listing {
         about: "Sheets with no line but the last, with slots and serial numbers, and with numbers of one to seven digits.",
         name: "SheetsPrinted",
-        law: "{X = SheetCase} (λ x. sheet x.slots x.serials x.report ≡ lines x.sheet)",
+        law: "{X = List (Command × Hearing × ℕ) × List String × Report × List String}\n    (λ (slots, serials, report, printed). sheet (map slot_row slots) (map bytes serials) report ≡ lines printed)".into(),
         rows: vec![
             sheet_row(&[], &[], outcome(Ok(()), [0, 0, 0], 0)),
             sheet_row(&[], &[], outcome(spent, [1, 12, 123], 1_234)),
@@ -177,20 +141,22 @@ fn rooms() -> Listing {
     };
     let printed = sheet.to_string();
     let printing = |&room: &usize| {
-        let before = vec![OLD; room];
-        let mut after = before.clone();
-        let answer = if printed.len() > room {
-            Term::call("denied", &[number(Refusal::NoRoom as u8)])
-        } else {
-            after[..printed.len()].copy_from_slice(printed.as_bytes());
-            Term::call("told", &[number(printed.len())])
+        let Some(behind) = room.checked_sub(printed.len()) else {
+            let answer = Term::call("denied", &[number(Refusal::NoRoom as u8)]);
+            return row(&[number(room), answer, stretch(&vec![OLD; room])]);
         };
-        row(&[stretch(&before), answer, stretch(&after)])
+        let answer = Term::call("told", &[number(printed.len())]);
+        let lines = Term::call("lines", &[lines_term(&printed)]);
+        if behind == 0 {
+            return row(&[number(room), answer, lines]);
+        }
+        let after = Term::joined(&[lines, stretch(&vec![OLD; behind])]);
+        row(&[number(room), answer, after])
     };
     Listing {
-        about: "A buffer, the answer of writing a sheet of one line, and the buffer after it.",
+        about: "How long a buffer is, the answer of writing a sheet of one line, and the buffer after it.",
         name: "SheetRooms",
-        law: "{X = List ℕ × Answer × List ℕ}\n    (λ x. (answering (writing (sheet [] [] (report Whole 1 0 0 3)) (length x.0)) ≡ x.1)\n    × (leaving (writing (sheet [] [] (report Whole 1 0 0 3)) (length x.0)) x.0 ≡ x.2))",
+        law: "{X = ℕ × Answer × List ℕ}\n    (λ (room, answer, after). (answering (writing short_sheet room) ≡ answer)\n    × (leaving (writing short_sheet room) (used room) ≡ after))".into(),
         rows: [31, 30, 0, 33].iter().map(printing).collect(),
     }
 }

@@ -1,9 +1,9 @@
 //! What texts spell, how bytes are shown, and what is sent.
 
-use super::listing::{file as file_of, row, Listing};
+use super::listing::{file as file_of, row, Listing, Row};
 use super::protocol::{refusal, REFUSALS};
 use super::term::{
-    byte, bytes, locks, mark, maybe, number, plain, stretch, tag, text, truth, Term,
+    byte, digits, locks, mark, maybe, number, plain, stretch, tag, text, truth, Term,
 };
 use crate::frame::{make, LONGEST};
 use crate::question::hex;
@@ -12,16 +12,17 @@ use crate::tag::{Reply, Tag, MEMORY_LENGTH};
 
 const HEAD: &str = "\
 -- What is spelt and sent, by the second implementation, which wrote this file. Assumes nothing.
+use Prim.Native.String.{String}
 use Rattle.std.specs.Prelude.{◌≡◌, ℕ, Bool, true, false, List, [], ◌∷◌, ◌++◌, replicate, Option, Some, None, codes}
 use Rattle.std.specs.List.{AllByRecursion, range_with_len}
 use Rattle.hex.specs.declared.error.FromHexError.{FromHexError}
-use Rattle.hex.specs.declared.error.FromHexError.TheVariants.{InvalidHexCharacter, OddLength, InvalidStringLength, OutOfMemory}
+use Rattle.hex.specs.declared.error.FromHexError.TheVariants.{InvalidHexCharacter, OddLength}
+use Rattle.hex.specs.declared.error.FromHexError.TheVariants.{InvalidStringLength, OutOfMemory}
 use Rattle.protocol.specs.declared.refusal.Refusal.TheVariants as refusal
 use Rattle.record.specs.declared.State.TheVariants.{Ready}
 use Rattle.record.specs.declared.Tag.{Tag}
 use Rattle.record.specs.declared.WriteMark.{WriteMark}
 use Rattle.record.specs.declared.WriteMark.TheVariants.{Clear, Fading, Fresh}
-use Rattle.record.specs.Listings.{plain, locked_in, first_two, tag_with}
 use Rattle.reply.specs.declared.Reply.{Reply}
 use Rattle.reply.specs.declared.Reply.TheVariants.{Serial, Memory, Status}
 use Rattle.spelling.specs.declared.misspelt.Misspelt.{Misspelt}
@@ -31,6 +32,7 @@ use Rattle.spelling.specs.Misspellings.{misspelt_text, line_text, of_hex}
 use Rattle.spelling.specs.Samples.{numbered_serial, numbered_memory, sample_serial, sample_memory}
 use Rattle.spelling.specs.Sent.{IsFrame, IsNoFrame, reply_bytes}
 use Rattle.spelling.specs.Words.{SpellsBit, SpellsMark, SpellsPermission, SpellsLocks}
+use Rattle.worked_cases.specs.Words.{bytes, locked_in, tag_in}
 ";
 
 pub fn file() -> String {
@@ -59,7 +61,7 @@ pub fn file() -> String {
 }
 
 /// A text with what it spells.
-fn spelt<T>(word: &str, read: impl Fn(&str) -> Option<T>, term: impl Fn(T) -> Term) -> String {
+fn spelt<T>(word: &str, read: impl Fn(&str) -> Option<T>, term: impl Fn(T) -> Term) -> Row {
     let value = read(word).expect("the text spells something");
     row(&[text(word), term(value)])
 }
@@ -82,7 +84,7 @@ fn shown_bytes() -> Listing {
         ] {
             rows.push(row(&[
                 text(between),
-                bytes(all),
+                digits(all),
                 text(&shown(all, between)),
             ]));
         }
@@ -90,7 +92,7 @@ fn shown_bytes() -> Listing {
     Listing {
         about: "What stands between bytes, the bytes, and how they are shown.",
         name: "ShownBytes",
-        law: "{X = List ℕ × List ℕ × List ℕ} (λ x. shown x.0 x.1 ≡ x.2)",
+        law: "{X = String × String × String}\n    (λ (between, all, text). shown (codes between) (bytes all) ≡ codes text)".into(),
         rows,
     }
 }
@@ -103,7 +105,7 @@ fn small_letters() -> Listing {
     Listing {
         about: "Texts, and whether they have small letters.",
         name: "SmallLetters",
-        law: "{X = List ℕ × Bool} (λ x. has_small x.0 ≡ x.1)",
+        law: "{X = String × Bool} (λ (text, small). has_small (codes text) ≡ small)".into(),
         rows: ["", "-", "09AF", "AZ@[", "a", "z", "`{", "0Fa"]
             .iter()
             .map(listed)
@@ -115,9 +117,10 @@ fn spelt_bytes() -> Listing {
     Listing {
         about: "Texts, and the bytes that they spell.",
         name: "SpeltBytes",
-        law: "{X = List ℕ × List ℕ} (λ x. SpellsBytes x.0 x.1)",
+        law: "{X = String × String} (λ (text, spelt). SpellsBytes (codes text) (bytes spelt))"
+            .into(),
         rows: ["-", "", "00", "0F", "FF", "0123456789ABCDEF"]
-            .map(|word| spelt(word, reading::bytes, |all| bytes(&all)))
+            .map(|word| spelt(word, reading::bytes, |all| digits(&all)))
             .to_vec(),
     }
 }
@@ -125,12 +128,12 @@ fn spelt_bytes() -> Listing {
 fn spelt_arrays() -> Listing {
     let listed = |word: &str| {
         let all = reading::bytes(word).expect("the text spells bytes");
-        row(&[number(all.len()), text(word), bytes(&all)])
+        row(&[number(all.len()), text(word), digits(&all)])
     };
     Listing {
         about: "Numbers of bytes, and texts that spell so many.",
         name: "SpeltArrays",
-        law: "{X = ℕ × List ℕ × List ℕ} (λ x. SpellsArray x.0 x.1 x.2)",
+        law: "{X = ℕ × String × String} (λ (count, text, spelt). SpellsArray count (codes text) (bytes spelt))".into(),
         rows: ["", "FF00", "C0000000000001"].map(listed).to_vec(),
     }
 }
@@ -139,7 +142,7 @@ fn spelt_single() -> Listing {
     Listing {
         about: "Texts, and the one byte that they spell.",
         name: "SpeltSingle",
-        law: "{X = List ℕ × ℕ} (λ x. SpellsByte x.0 x.1)",
+        law: "{X = String × ℕ} (λ (text, spelt). SpellsByte (codes text) spelt)".into(),
         rows: ["00", "0A", "A0", "FF"]
             .map(|word| spelt(word, reading::byte, byte))
             .to_vec(),
@@ -150,7 +153,7 @@ fn spelt_bits() -> Listing {
     Listing {
         about: "The two texts that spell a bit.",
         name: "SpeltBits",
-        law: "{X = List ℕ × Bool} (λ x. SpellsBit x.0 x.1)",
+        law: "{X = String × Bool} (λ (text, spelt). SpellsBit (codes text) spelt)".into(),
         rows: ["0", "1"]
             .map(|word| spelt(word, reading::bit, truth))
             .to_vec(),
@@ -161,7 +164,7 @@ fn spelt_marks() -> Listing {
     Listing {
         about: "The three texts that spell a write mark.",
         name: "SpeltMarks",
-        law: "{X = List ℕ × WriteMark} (λ x. SpellsMark x.0 x.1)",
+        law: "{X = String × WriteMark} (λ (text, spelt). SpellsMark (codes text) spelt)".into(),
         rows: ["0", "1", "2"]
             .map(|word| spelt(word, reading::mark_of, mark))
             .to_vec(),
@@ -173,7 +176,8 @@ fn spelt_permissions() -> Listing {
     Listing {
         about: "Texts, and the permission that they spell.",
         name: "SpeltPermissions",
-        law: "{X = List ℕ × Option ℕ} (λ x. SpellsPermission x.0 x.1)",
+        law: "{X = String × Option ℕ} (λ (text, spelt). SpellsPermission (codes text) spelt)"
+            .into(),
         rows: ["-", "00", "FF"]
             .map(|word| spelt(word, reading::permission_of, permission))
             .to_vec(),
@@ -184,7 +188,7 @@ fn spelt_locks() -> Listing {
     Listing {
         about: "Texts, and the locks that they spell: none, the first, the last, two where a byte begins, one in the middle, all.",
         name: "SpeltLocks",
-        law: "{X = List ℕ × List Bool} (λ x. SpellsLocks x.0 x.1)",
+        law: "{X = String × List Bool} (λ (text, spelt). SpellsLocks (codes text) spelt)".into(),
         rows: [
             "00000000000000",
             "80000000000000",
@@ -204,7 +208,7 @@ fn misspelt(name: &str, parts: &[Term]) -> Term {
 }
 
 fn errors() -> Listing {
-    let mut rows: Vec<String> = [
+    let mut rows: Vec<Row> = [
         ("Bytes", "not the bytes that are wanted, in hexadecimal"),
         ("Bit", "neither 0 nor 1"),
         ("Mark", "no write mark"),
@@ -222,7 +226,7 @@ fn errors() -> Listing {
     Listing {
         about: "The errors, and what is printed of each.",
         name: "ErrorsListed",
-        law: "{X = Misspelt × List ℕ} (λ x. misspelt_text x.0 ≡ x.1)",
+        law: "{X = Misspelt × String} (λ (error, text). misspelt_text error ≡ codes text)".into(),
         rows,
     }
 }
@@ -232,7 +236,7 @@ fn errors_of_hex() -> Listing {
     Listing {
         about: "What the errors of reading hexadecimal are here.",
         name: "ErrorsOfHex",
-        law: "{X = FromHexError × Misspelt} (λ x. of_hex x.0 ≡ x.1)",
+        law: "{X = FromHexError × Misspelt} (λ (error, here). of_hex error ≡ here)".into(),
         rows: [
             (digit, "Bytes"),
             (Term::word("OddLength"), "Bytes"),
@@ -248,7 +252,7 @@ fn lines() -> Listing {
     Listing {
         about: "Numbers of lines, and what is printed of each.",
         name: "LinesListed",
-        law: "{X = ℕ × List ℕ} (λ x. line_text x.0 ≡ x.1)",
+        law: "{X = ℕ × String} (λ (line, text). line_text line ≡ codes text)".into(),
         rows: [1, 10, 4_294_967_295_u32]
             .map(|line| row(&[number(line), text(&format!("line {line}"))]))
             .to_vec(),
@@ -266,12 +270,12 @@ fn numbered(last: u8) -> ([u8; 8], [u8; MEMORY_LENGTH]) {
 fn numbered_tags() -> Listing {
     let listed = |last: u8| {
         let (serial, memory) = numbered(last);
-        row(&[byte(last), bytes(&serial), stretch(&memory)])
+        row(&[byte(last), digits(&serial), stretch(&memory)])
     };
     Listing {
         about: "Last bytes of serial numbers, the serial numbers, and the memories of the tags.",
         name: "NumberedTags",
-        law: "{X = ℕ × List ℕ × List ℕ} (λ x. (numbered_serial x.0 ≡ x.1) × (numbered_memory x.0 ≡ x.2))",
+        law: "{X = ℕ × String × List ℕ}\n    (λ (last, serial, memory). (numbered_serial last ≡ bytes serial) × (numbered_memory last ≡ memory))".into(),
         rows: [0x00, 0x01, 0xFF].map(listed).to_vec(),
     }
 }
@@ -281,8 +285,8 @@ fn sample() -> Listing {
     Listing {
         about: "The sample's serial number and its memory.",
         name: "SampleListed",
-        law: "{X = List ℕ × List ℕ} (λ x. (sample_serial ≡ x.0) × (sample_memory ≡ x.1))",
-        rows: vec![row(&[bytes(&serial), stretch(&memory)])],
+        law: "{X = String × List ℕ}\n    (λ (serial, memory). (sample_serial ≡ bytes serial) × (sample_memory ≡ memory))".into(),
+        rows: vec![row(&[digits(&serial), stretch(&memory)])],
     }
 }
 
@@ -296,12 +300,12 @@ fn frames() -> Listing {
         let mut frame = vec![0; LONGEST];
         let made = make(code, &counted(length), &mut frame);
         frame.truncate(made.expect("the call makes a frame"));
-        row(&[byte(code), bytes(&counted(length)), bytes(&frame)])
+        row(&[byte(code), digits(&counted(length)), digits(&frame)])
     };
     Listing {
         about: "Codes with parameters, and the frame of each.",
         name: "FramesListed",
-        law: "{X = ℕ × List ℕ × List ℕ} (λ x. IsFrame x.0 x.1 x.2)",
+        law: "{X = ℕ × String × String}\n    (λ (code, parameters, frame). IsFrame code (bytes parameters) (bytes frame))".into(),
         rows: [(0x09, 0), (0x00, 10), (0x1B, 14)].map(made).to_vec(),
     }
 }
@@ -315,12 +319,12 @@ fn no_frames() -> Listing {
             .find(|(_, of_it)| *of_it == number)
             .expect("each refusal has a word");
         let error = misspelt("Refused", &[refusal(word)]);
-        row(&[byte(code), bytes(&counted(length)), error])
+        row(&[byte(code), digits(&counted(length)), error])
     };
     Listing {
         about: "Codes with parameters that make no frame, and the error of each.",
         name: "NoFramesListed",
-        law: "{X = ℕ × List ℕ × Misspelt} (λ x. IsNoFrame x.0 x.1 x.2)",
+        law: "{X = ℕ × String × Misspelt} (λ (code, parameters, error). IsNoFrame code (bytes parameters) error)".into(),
         rows: [(0x01, 0), (0x09, 1), (0x1B, 15)].map(refused).to_vec(),
     }
 }
@@ -344,7 +348,9 @@ fn replies() -> Listing {
     Listing {
         about: "Tags, what each replies, if anything, and the bytes that are sent.",
         name: "RepliesListed",
-        law: "{X = Tag × Option Reply × List ℕ} (λ x. reply_bytes x.0 x.1 ≡ x.2)",
+        law:
+            "{X = Tag × Option Reply × List ℕ} (λ (tag, reply, sent). reply_bytes tag reply ≡ sent)"
+                .into(),
         rows: vec![
             sent(&plain(), None),
             sent(&plain(), Some(status(0x00))),

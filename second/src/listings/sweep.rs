@@ -1,93 +1,72 @@
 //! Sweeps of small crowds, and what becomes of their tags.
 
-use super::crowd::{bench, heard, hearing_term, numbered, tags_in};
-use super::listing::{file as file_of, named_row, row, Listing};
-use super::term::{byte, bytes, command, number, state as state_term, tag_with, truth, wide, Term};
+use super::crowd::{bench, carrier, heard, hearing_term, numbered, tags_in, tags_term};
+use super::listing::{file as file_of, row, row_by, Listing, Row};
+use super::term::{command, digits, number, wide, Term};
+use super::words::{report_term, slots_term};
 use crate::field::{Field, Hearing};
 use crate::frame::Name;
 use crate::layers::Spoiler;
 use crate::list::List;
 use crate::listener::{Listener, Sent};
 use crate::order::{Serial, SERIAL_LENGTH};
-use crate::sweep::{run, Outcome, Slot, Stop};
-use crate::tag::{State, Tag, MEMORY_LENGTH};
+use crate::sweep::{run, Outcome, Slot};
+use crate::tag::{State, Tag};
 
 use State::{Inventoried, Ready, Singulation};
 
 const HEAD: &str = "\
 -- Sweeps at the limits, by the second implementation, which wrote this file. Assumes nothing.
-use Rattle.std.specs.Prelude.{◌≡◌, ℕ, ◌+◌, Bool, true, false, List, [], ◌∷◌, ◌++◌, map, replicate, Some, None}
+use Prim.Native.String.{String}
+use Rattle.std.specs.Prelude.{◌≡◌, ℕ, ◌+◌, true, false, List, [], ◌∷◌, ◌++◌, map, Some}
 use Rattle.std.specs.List.{AllByRecursion, range_with_len}
 use Rattle.protocol.specs.declared.command.Command.{Command}
 use Rattle.protocol.specs.declared.command.Command.TheVariants.{Select, Query, Scroll}
-use Rattle.record.specs.declared.State.{State}
 use Rattle.record.specs.declared.State.TheVariants.{Ready, Singulation, Inventoried}
-use Rattle.record.specs.declared.WriteMark.TheVariants.{Clear, Fading, Fresh}
+use Rattle.record.specs.declared.WriteMark.TheVariants.{Fading, Fresh}
 use Rattle.record.specs.declared.Tag.{Tag}
-use Rattle.record.specs.Listings.{first_two, tag_with}
 use Rattle.field.specs.declared.hearing.Hearing.{Hearing}
 use Rattle.field.specs.declared.hearing.Hearing.TheVariants.{Silence, Lone, Clash}
-use Rattle.field.specs.Listings.{ending}
-use Rattle.slot.specs.declared.row.SlotRow.{SlotRow}
-use Rattle.slot.specs.declared.ending.End.{End}
 use Rattle.slot.specs.declared.ending.End.TheVariants.{Whole, Stopped}
 use Rattle.slot.specs.declared.ending.Report.{Report}
 use Rattle.slot.specs.declared.ending.Stop.TheVariants.{Spent, Full}
 use Rattle.slot.specs.Commands.{query}
-use Rattle.slot.specs.Rules.{Setting, Play, Deed, in_clash, beginning, stops, opens, next_deed, played, Heard, replayed}
+use Rattle.slot.specs.Rules.{Setting, Play, Deed, in_clash, beginning, stops, opens, next_deed, played}
+use Rattle.slot.specs.Rules.{Heard, replayed}
 use Rattle.sweep.specs.Fates.{fate_of, due_serials}
 use Rattle.sweep.specs.Tallies.{enough}
 use Rattle.sweep.specs.Whole.{Reported}
-
--- A serial number that matches the SELECT, with this last byte, and the memory that has it and 00 behind it.
-abbrev pub serial_with : ℕ → List ℕ
-serial_with n = 0xef ∷ 0x04 ∷ (replicate 5 0x00 ++ n ∷ [])
-
-abbrev pub carrying : ℕ → List ℕ
-carrying n = serial_with n ++ replicate 48 0x00
-
--- A tag with that memory, in some state, with or without its ID flag, with some counter.
-abbrev pub carrier : ℕ → State → Bool → ℕ → Tag
-carrier n state flag counter = tag_with (carrying n) first_two state flag counter Clear None
+use Rattle.worked_cases.specs.Words.{bytes, flagged, numbered, carrier, carriers_from, slot_row, report_of}
 
 -- Recorded rows, a budget, and room for slots and for serial numbers.
 abbrev pub setting_of : List ℕ → ℕ → ℕ → ℕ → Setting
 setting_of rows budget slot_room serial_room =
     record { coins = rows; budget = budget; slot_room = slot_room; serial_room = serial_room }
 
-abbrev pub slot_row : Command → Hearing → ℕ → SlotRow
-slot_row command hearing waiting = record { command = command; hearing = hearing; waiting = waiting }
-
--- The end, then lone, silent and clash slots, and commands.
-abbrev pub report_of : End → ℕ → ℕ → ℕ → ℕ → Report
-report_of end lone silent clash commands =
-    record { end = end; counts = record { lone = lone; silent = silent; clash = clash; commands = commands } }
-
 -- What a sweep is given, the tags before it, and what is heard at each deed; then its report, its slots and serial
 -- numbers, the tags after it, and how many of its commands are READs.
-pub record SweepCase : Type 0 where
-  pub set : Setting
-  pub before : List Tag
-  pub hearings : List Hearing
-  pub report : Report
-  pub slots : List SlotRow
-  pub serials : List (List ℕ)
-  pub after : List Tag
-  pub reads : ℕ
+abbrev pub SweepCase : Type 0
+SweepCase =
+    Setting × List Tag × List Hearing × Report × List (Command × Hearing × ℕ) × List String × List Tag × ℕ
+
+abbrev pub swept :
+    Setting → List Tag → List Hearing → Report → List (Command × Hearing × ℕ) → List String → List Tag → ℕ → SweepCase
+swept set before hearings report slots serials after reads =
+    (set, before, hearings, report, slots, serials, after, reads)
 
 -- A sweep that has ended gives what the case tells.
-pub record Gives (x : SweepCase) (p : Play) : Type 0 where
-  pub reported : Reported (record { report = x.report; slots = x.slots; serials = x.serials }) x.after p
-  pub read : p.reads ≡ x.reads
+abbrev pub Gives : SweepCase → Play → Type 0
+Gives (set, before, hearings, report, slots, serials, after, reads) play =
+    Reported (record { report = report; slots = map slot_row slots; serials = map bytes serials }) after play
+    × (play.reads ≡ reads)
 
 -- These hearings may come, and with them it gives that.
-pub record PlaysOut (x : SweepCase) : Type 0 where
-  pub heard : Heard x.set x.hearings (beginning x.before)
-  pub given : Gives x (played x.set x.hearings (beginning x.before))
+abbrev pub PlaysOut : SweepCase → Type 0
+PlaysOut x = Heard x.0 x.2 (beginning x.1) × Gives x (played x.0 x.2 (beginning x.1))
 
 -- It gives that too by the rule alone, where every lone reply is heard as lone.
 abbrev pub Replays : SweepCase → Type 0
-Replays x = Gives x (replayed x.set (enough x.set) (beginning x.before))
+Replays x = Gives x (replayed x.0 (enough x.0) (beginning x.1))
 
 -- A sweep that has heard nothing but clashes, as so many groups wait. What the reader does next hangs on no tag.
 abbrev pub clashing : ℕ → Play
@@ -98,18 +77,10 @@ clashing groups =
       next = 1;
       commands = groups + 1;
       reads = 0;
-      slots = map (slot_row Query Clash) (range_with_len 0 (groups + 1));
+      slots = map (λ waiting. slot_row (Query, Clash, waiting)) (range_with_len 0 (groups + 1));
       serials = [];
       tags = [];
     }
-";
-
-const TAIL: &str = "
--- All of these.
-pub record SweepCases : Type 0 where
-  pub plain : WorkedSweeps
-  pub spoiled : SpoiledSweeps
-  pub deep : DeepSweeps
 ";
 
 /// What stands in lists before a sweep.
@@ -120,7 +91,7 @@ const UNUSED: Slot = Slot {
 };
 
 pub fn file() -> String {
-    file_of(HEAD, &[sweeps(), spoiled_sweeps(), deep_sweeps(), fates()]) + TAIL
+    file_of(HEAD, &[sweeps(), spoiled_sweeps(), deep_sweeps(), fates()])
 }
 
 /// Rows of coins, a budget, and room for slots and for serial numbers.
@@ -155,18 +126,6 @@ fn sweep(field: &mut dyn Field, setting: Setting) -> Swept {
     }
 }
 
-/// A tag whose serial number matches the SELECT and ends with a byte; all bytes behind it are 00.
-fn carrier(number: u8, state: State, counter: u8) -> Tag {
-    let mut memory = [0; MEMORY_LENGTH];
-    memory[..2].copy_from_slice(&[0xEF, 0x04]);
-    memory[SERIAL_LENGTH - 1] = number;
-    Tag {
-        state,
-        counter,
-        ..Tag::new(memory)
-    }
-}
-
 /// Tags that are READY.
 fn ready(numbers: &[u8]) -> Vec<Tag> {
     let each = |&number: &u8| carrier(number, Ready, 0);
@@ -189,44 +148,13 @@ fn mixed() -> Vec<Tag> {
     ]
 }
 
-fn tag_term(each: &Tag) -> Term {
-    let last = each.memory[SERIAL_LENGTH - 1];
-    let matches = each.memory == carrier(last, Ready, 0).memory;
-    if matches && each.mark == 0 && each.permission.is_none() {
-        let parts = [
-            byte(last),
-            state_term(each.state),
-            truth(each.id_flag),
-            byte(each.counter),
-        ];
-        return Term::call("carrier", &parts);
-    }
-    let memory = if matches { "carrying" } else { "ending" };
-    tag_with(Term::call(memory, &[byte(last)]), each)
-}
-
-fn tags_term(tags: &[Tag]) -> Term {
-    Term::list(&tags.iter().map(tag_term).collect::<Vec<_>>())
-}
-
-fn serial_term(serial: &Serial) -> Term {
-    let last = serial[SERIAL_LENGTH - 1];
-    if *serial == carrier(last, Ready, 0).memory[..SERIAL_LENGTH] {
-        return Term::call("serial_with", &[byte(last)]);
-    }
-    bytes(serial)
-}
-
 fn serials_term(serials: &[Serial]) -> Term {
-    Term::list(&serials.iter().map(serial_term).collect::<Vec<_>>())
-}
-
-fn slots_term(slots: &[Slot]) -> Term {
-    let each = |slot: &Slot| {
-        let (command, hearing) = (command(slot.name), hearing_term(slot.hearing));
-        Term::call("slot_row", &[command, hearing, number(slot.waiting)])
-    };
-    Term::list(&slots.iter().map(each).collect::<Vec<_>>())
+    Term::list(
+        &serials
+            .iter()
+            .map(|serial| digits(serial))
+            .collect::<Vec<_>>(),
+    )
 }
 
 fn setting_term(Setting(rows, budget, slots, serials): Setting) -> Term {
@@ -236,18 +164,6 @@ fn setting_term(Setting(rows, budget, slots, serials): Setting) -> Term {
         "setting_of",
         &[Term::list(&rows), number(budget), rooms.0, rooms.1],
     )
-}
-
-fn report_term(outcome: &Outcome) -> Term {
-    let end = match outcome.end {
-        Ok(()) => Term::word("Whole"),
-        Err(Stop::TooDeep) => panic!("no sweep in these cases is so deep"),
-        Err(Stop::Spent) => Term::call("Stopped", &[Term::word("Spent")]),
-        Err(Stop::Full) => Term::call("Stopped", &[Term::word("Full")]),
-    };
-    let [lone, silent, clash] = [outcome.lone, outcome.silent, outcome.clash].map(number);
-    let commands = number(outcome.commands);
-    Term::call("report_of", &[end, lone, silent, clash, commands])
 }
 
 fn is_read(sent: &&Sent) -> bool {
@@ -270,17 +186,20 @@ fn hearings_term(swept: &Swept) -> Term {
     Term::list(&all)
 }
 
-fn sweep_row(setting: Setting, swept: &Swept) -> String {
-    named_row(&[
-        ("set", setting_term(setting)),
-        ("before", tags_term(&swept.before)),
-        ("hearings", hearings_term(swept)),
-        ("report", report_term(&swept.outcome)),
-        ("slots", slots_term(&swept.slots)),
-        ("serials", serials_term(&swept.serials)),
-        ("after", tags_term(&swept.after)),
-        ("reads", number(swept.sent.iter().filter(is_read).count())),
-    ])
+fn sweep_row(setting: Setting, swept: &Swept) -> Row {
+    row_by(
+        "swept",
+        &[
+            setting_term(setting),
+            tags_term(&swept.before),
+            hearings_term(swept),
+            report_term(&swept.outcome),
+            slots_term(&swept.slots),
+            serials_term(&swept.serials),
+            tags_term(&swept.after),
+            number(swept.sent.iter().filter(is_read).count()),
+        ],
+    )
 }
 
 fn sweeps() -> Listing {
@@ -316,9 +235,9 @@ fn sweeps() -> Listing {
         sweep_row(setting, &sweep(&mut bench(tags.clone()), setting))
     };
     Listing {
-        about: "Sweeps of none to four tags that hear each lone reply as lone: whole, the budget spent before each command, a list full.",
+        about: "Sweeps of none to four tags that hear each lone reply as lone: whole, the budget spent before each kind of command,\n-- a list full.",
         name: "WorkedSweeps",
-        law: "{X = SweepCase} (λ x. PlaysOut x × Replays x)",
+        law: "{X = SweepCase} (λ x. PlaysOut x × Replays x)".into(),
         rows: cases.iter().map(row_of).collect(),
     }
 }
@@ -346,7 +265,7 @@ fn spoiled_sweeps() -> Listing {
     Listing {
         about: "Sweeps in which some lone replies are heard as clashes, as a spoiler hears them.",
         name: "SpoiledSweeps",
-        law: "PlaysOut",
+        law: "PlaysOut".into(),
         rows: cases.iter().map(row_of).collect(),
     }
 }
@@ -382,7 +301,7 @@ fn deep_sweeps() -> Listing {
     Listing {
         about: "What a sweep is given, how many groups wait behind a clash, and what the reader does: 7 comes before 8 and 9.",
         name: "DeepSweeps",
-        law: "{X = Setting × ℕ × Deed} (λ x. next_deed x.0 (clashing x.1) ≡ x.2)",
+        law: "{X = Setting × ℕ × Deed} (λ (set, groups, deed). next_deed set (clashing groups) ≡ deed)".into(),
         rows: cases.iter().map(row_of).collect(),
     }
 }
@@ -428,7 +347,7 @@ fn fates() -> Listing {
     Listing {
         about: "Tags before a whole sweep, the tags after it, and what it lists, in the order of places.",
         name: "WorkedFates",
-        law: "{X = List Tag × List Tag × List (List ℕ)} (λ x. (map fate_of x.0 ≡ x.1) × (due_serials x.0 ≡ x.2))",
+        law: "{X = List Tag × List Tag × List String}\n    (λ (before, after, serials). (map fate_of before ≡ after) × (due_serials before ≡ map bytes serials))".into(),
         rows: cases.iter().map(row_of).collect(),
     }
 }

@@ -1,7 +1,7 @@
 //! A tag's step on each command, and on what is no frame.
 
-use super::listing::{file as file_of, named_row, Listing};
-use super::term::{bytes, maybe, plain, stretch, tag, truth};
+use super::listing::{file as file_of, row, row_by, Listing, Row};
+use super::term::{digits, maybe, plain, stretch, tag, truth, Term};
 use crate::frame::{sealed, sealed_with, Name};
 use crate::order::Order;
 use crate::tag::{Locks, State, Tag};
@@ -10,31 +10,28 @@ use State::{Inventoried, Ready, Singulation};
 
 const HEAD: &str = "\
 -- A tag's steps at the limits, by the second implementation, which wrote this file. Assumes nothing.
+use Prim.Native.String.{String}
 use Rattle.std.specs.Prelude.{◌≡◌, ℕ, Bool, true, false, List, [], ◌∷◌, ◌++◌, replicate, Some, None, Option}
 use Rattle.std.specs.List.{AllByRecursion, range_with_len}
 use Rattle.frame.specs.Openings.{opening}
 use Rattle.record.specs.declared.State.TheVariants.{Ready, Singulation, Inventoried}
 use Rattle.record.specs.declared.WriteMark.TheVariants.{Clear, Fading, Fresh}
 use Rattle.record.specs.declared.Tag.{Tag}
-use Rattle.record.specs.Listings.{plain, first_two, locked_in, tag_with}
 use Rattle.tag.specs.Steps.{stepped, replied}
+use Rattle.worked_cases.specs.Words.{bytes, plain_but, only_locked, tag_of, tag_in, flagged_in, busy}
 
--- A tag, the frame that it hears, its coin, the tag after it, and its reply.
-pub record StepCase : Type 0 where
-  pub before : Tag
-  pub frame : List ℕ
-  pub coin : Bool
-  pub after : Tag
-  pub reply : Option (List ℕ)
+-- A tag, the frame that it hears, the tag after it, and its reply.
+abbrev pub step : Tag → String → Tag → Option (List ℕ) → Tag × String × Tag × Option (List ℕ)
+step before frame after reply = (before, frame, after, reply)
 
-abbrev pub Holds : StepCase → Type 0
-Holds x =
-    (stepped (opening x.frame) x.coin x.before ≡ x.after) × (replied (opening x.frame) x.coin x.before ≡ x.reply)
-";
+-- The plain tag's serial number, as it is sent.
+abbrev pub serial_sent : List ℕ
+serial_sent = bytes \"40414243444546478E0F\"
 
-const TAIL: &str = "
--- All of these.
-pub record StepCases : Type 0 where
+-- By a frame and a coin a tag becomes this one, and replies so.
+abbrev pub Holds : Tag → String → Bool → Tag → Option (List ℕ) → Type 0
+Holds before frame coin after reply =
+    (stepped (opening (bytes frame)) coin before ≡ after) × (replied (opening (bytes frame)) coin before ≡ reply)
 ";
 
 /// Another serial number than the plain tag's, in the last byte alone.
@@ -45,28 +42,23 @@ const SERIAL: [u8; 8] = [0x40, 0x41, 0x42, 0x43, 0x44, 0x45, 0x46, 0x47];
 
 pub fn file() -> String {
     let listings = [
-        ("select", selects()),
-        ("unselect_ne", unselects_ne()),
-        ("unselect_flag", unselects_flag()),
-        ("unselect_no_flag", unselects_no_flag()),
-        ("query", queries()),
-        ("scroll", scrolls()),
-        ("repeat", repeats()),
-        ("reset", resets()),
-        ("read", reads()),
-        ("read_flexible", flexible_reads()),
-        ("verify", verifies()),
-        ("write", writes()),
-        ("lock", locks()),
-        ("qlock", lock_queries()),
-        ("no_frame", no_frames()),
+        selects(),
+        unselects_ne(),
+        unselects_flag(),
+        unselects_no_flag(),
+        queries(),
+        scrolls(),
+        repeats(),
+        resets(),
+        reads(),
+        flexible_reads(),
+        verifies(),
+        writes(),
+        locks(),
+        lock_queries(),
+        no_frames(),
     ];
-    let fields: String = listings
-        .iter()
-        .map(|(field, listing)| format!("  pub {field} : {}\n", listing.name))
-        .collect();
-    let listings = listings.map(|(_, listing)| listing);
-    file_of(HEAD, &listings) + TAIL + &fields
+    file_of(HEAD, &listings)
 }
 
 /// The plain tag in some state, with a counter.
@@ -97,32 +89,87 @@ fn permitted(address: u8, tag: Tag) -> Tag {
     }
 }
 
-fn row(before: &Tag, frame: &[u8], coin: bool) -> String {
-    let mut after = before.clone();
-    let reply = after.step(&Order::open(frame), coin);
-    let reply = reply.map(|reply| after.written(reply));
-    named_row(&[
-        ("before", tag(before)),
-        ("frame", bytes(frame)),
-        ("coin", truth(coin)),
-        ("after", tag(&after)),
-        ("reply", maybe(reply.as_deref().map(stretch))),
-    ])
+/// Most replies are the plain tag's serial number.
+fn reply_term(bytes: &[u8]) -> Term {
+    if bytes == sealed(&SERIAL) {
+        return Term::word("serial_sent");
+    }
+    stretch(bytes)
 }
 
-fn rows(name: Name, cases: &[(Tag, &[u8])]) -> Vec<String> {
+/// A tag that hears a frame, with a coin.
+struct Step {
+    before: Tag,
+    frame: Vec<u8>,
+    coin: bool,
+}
+
+fn step(before: Tag, frame: &[u8], coin: bool) -> Step {
+    Step {
+        before,
+        frame: frame.to_vec(),
+        coin,
+    }
+}
+
+fn steps(name: Name, cases: &[(Tag, &[u8])]) -> Vec<Step> {
     cases
         .iter()
-        .map(|(before, parameters)| row(before, &sealed_with(name as u8, parameters), false))
+        .map(|(before, parameters)| {
+            step(before.clone(), &sealed_with(name as u8, parameters), false)
+        })
         .collect()
 }
 
-fn listing(about: &'static str, name: &'static str, rows: Vec<String>) -> Listing {
+/// What is the same in all steps stands in the law, and not in the rows.
+fn listing(about: &'static str, name: &'static str, steps: &[Step]) -> Listing {
+    let frame = &steps[0].frame;
+    let frames_differ = steps.iter().any(|step| step.frame != *frame);
+    let coins_fall = steps.iter().any(|step| step.coin);
+    let columns = [
+        (true, "Tag", "before"),
+        (frames_differ, "String", "frame"),
+        (coins_fall, "Bool", "coin"),
+        (true, "Tag", "after"),
+        (true, "Option (List ℕ)", "reply"),
+    ];
+    let columns = columns.into_iter().filter(|(has_it, ..)| *has_it);
+    let (types, names): (Vec<_>, Vec<_>) = columns.map(|(_, of, name)| (of, name)).unzip();
+    let (types, names) = (types.join(" × "), names.join(", "));
+    let frame = if frames_differ {
+        Term::word("frame")
+    } else {
+        digits(frame)
+    };
+    let coin = if coins_fall { "coin" } else { "false" };
+    let frame = frame.text();
     Listing {
         about,
         name,
-        law: "Holds",
-        rows,
+        law: format!("{{X = {types}}}\n    (λ ({names}). Holds before {frame} {coin} after reply)"),
+        rows: steps
+            .iter()
+            .map(|step| step_row(step, frames_differ, coins_fall))
+            .collect(),
+    }
+}
+
+fn step_row(step: &Step, has_frame: bool, has_coin: bool) -> Row {
+    let mut after = step.before.clone();
+    let reply = after.step(&Order::open(&step.frame), step.coin);
+    let reply = reply.map(|reply| after.written(reply));
+    let reply = maybe(reply.as_deref().map(reply_term));
+    let (before, frame, coin, after) = (
+        tag(&step.before),
+        digits(&step.frame),
+        truth(step.coin),
+        tag(&after),
+    );
+    match (has_frame, has_coin) {
+        (false, false) => row(&[before, after, reply]),
+        (false, true) => row(&[before, coin, after, reply]),
+        (true, false) => row_by("step", &[before, frame, after, reply]),
+        (true, true) => row(&[before, frame, coin, after, reply]),
     }
 }
 
@@ -168,7 +215,7 @@ fn selects() -> Listing {
     listing(
         "SELECT, at the ends of the memory, by single bits of the mask, and in each state.",
         "Selects",
-        rows(Name::Select, &cases),
+        &steps(Name::Select, &cases),
     )
 }
 
@@ -187,7 +234,7 @@ fn unselects_ne() -> Listing {
     listing(
         "UNSELECT_NE, in the same ways.",
         "UnselectsNe",
-        rows(Name::UnselectNe, &cases),
+        &steps(Name::UnselectNe, &cases),
     )
 }
 
@@ -213,7 +260,7 @@ fn unselects_flag() -> Listing {
     listing(
         "UNSELECT_ID_FLAG, in each state, with the flag set and clear.",
         "UnselectsFlag",
-        rows(Name::UnselectIdFlag, &cases),
+        &steps(Name::UnselectIdFlag, &cases),
     )
 }
 
@@ -225,16 +272,16 @@ fn unselects_no_flag() -> Listing {
     listing(
         "UNSELECT_NOID_FLAG, in the same ways.",
         "UnselectsNoFlag",
-        rows(Name::UnselectNoIdFlag, &cases),
+        &steps(Name::UnselectNoIdFlag, &cases),
     )
 }
 
 fn queries() -> Listing {
     let frame = sealed_with(Name::Query as u8, &[]);
-    let mut rows = Vec::new();
+    let mut steps = Vec::new();
     for counter in [0x00, 0x01, 0xFE, 0xFF] {
         for coin in [false, true] {
-            rows.push(row(&at(Singulation, counter), &frame, coin));
+            steps.push(step(at(Singulation, counter), &frame, coin));
         }
     }
     for (before, coin) in [
@@ -247,12 +294,12 @@ fn queries() -> Listing {
             false,
         ),
     ] {
-        rows.push(row(&before, &frame, coin));
+        steps.push(step(before, &frame, coin));
     }
     listing(
         "QUERY, with counters at their limits and both coins, and in each state.",
         "Queries",
-        rows,
+        &steps,
     )
 }
 
@@ -280,7 +327,7 @@ fn scrolls() -> Listing {
     listing(
         "SCROLL, with counters at their limits and in each state.",
         "Scrolls",
-        rows(Name::Scroll, &turns()),
+        &steps(Name::Scroll, &turns()),
     )
 }
 
@@ -288,7 +335,7 @@ fn repeats() -> Listing {
     listing(
         "REPEAT, in the same ways.",
         "Repeats",
-        rows(Name::Repeat, &turns()),
+        &steps(Name::Repeat, &turns()),
     )
 }
 
@@ -300,7 +347,7 @@ fn resets() -> Listing {
     listing(
         "RESET, in each state, with the flag set and clear.",
         "Resets",
-        rows(Name::Reset, &cases),
+        &steps(Name::Reset, &cases),
     )
 }
 
@@ -311,7 +358,7 @@ fn meant(serial: [u8; 8], rest: &[u8]) -> Vec<u8> {
 
 /// The plain tag's frames of a command, each with the tag that hears it and what stands behind the serial number; the
 /// same for a stranger as the last.
-fn accesses(name: Name, cases: &[(Tag, &[u8])]) -> Vec<String> {
+fn accesses(name: Name, cases: &[(Tag, &[u8])]) -> Vec<Step> {
     let mut serials: Vec<(Tag, Vec<u8>)> = cases
         .iter()
         .map(|(tag, rest)| (tag.clone(), meant(SERIAL, rest)))
@@ -325,7 +372,7 @@ fn accesses(name: Name, cases: &[(Tag, &[u8])]) -> Vec<String> {
         .iter()
         .map(|(tag, parameters)| (tag.clone(), parameters.as_slice()))
         .collect();
-    rows(name, &cases)
+    steps(name, &cases)
 }
 
 fn reads() -> Listing {
@@ -345,7 +392,7 @@ fn reads() -> Listing {
     listing(
         "READ, at the ends of the memory and in each state, and with other serial numbers.",
         "Reads",
-        accesses(Name::Read, &cases),
+        &accesses(Name::Read, &cases),
     )
 }
 
@@ -367,7 +414,7 @@ fn flexible_reads() -> Listing {
     listing(
         "READ_FLEXIBLE, from one byte to 256, in the same ways.",
         "FlexibleReads",
-        accesses(Name::ReadFlexible, &cases),
+        &accesses(Name::ReadFlexible, &cases),
     )
 }
 
@@ -391,7 +438,7 @@ fn verifies() -> Listing {
     listing(
         "VERIFY, with each mark, in the same ways.",
         "Verifies",
-        accesses(Name::Verify, &cases),
+        &accesses(Name::Verify, &cases),
     )
 }
 
@@ -433,7 +480,7 @@ fn writes() -> Listing {
     listing(
         "WRITE, at the ends of the memory, off a multiple of 4, by single bits of the mask, and over locked bytes.",
         "Writes",
-        accesses(Name::Write, &cases),
+        &accesses(Name::Write, &cases),
     )
 }
 
@@ -458,7 +505,7 @@ fn locks() -> Listing {
     listing(
         "LOCK, with no permission, another and the same, at the ends of the memory and in each state.",
         "LocksTried",
-        accesses(Name::Lock, &cases),
+        &accesses(Name::Lock, &cases),
     )
 }
 
@@ -480,13 +527,13 @@ fn lock_queries() -> Listing {
     listing(
         "QLOCK, of bytes that are locked, that are not, and that are not there, with each mark.",
         "LockQueries",
-        accesses(Name::QLock, &cases),
+        &accesses(Name::QLock, &cases),
     )
 }
 
 fn no_frames() -> Listing {
     let busy = |state| marked(2, permitted(0x08, flagged(at(state, 0xFF))));
-    let mut rows = Vec::new();
+    let mut steps = Vec::new();
     for frame in [
         vec![],
         vec![0x08, 0x9F],
@@ -496,13 +543,13 @@ fn no_frames() -> Listing {
         sealed_with(Name::Query as u8, &[0x00]),
     ] {
         for state in [Singulation, Inventoried] {
-            rows.push(row(&busy(state), &frame, false));
+            steps.push(step(busy(state), &frame, false));
         }
     }
-    rows.push(row(&marked(1, at(Ready, 0x00)), &[], true));
+    steps.push(step(marked(1, at(Ready, 0x00)), &[], true));
     listing(
         "Stubs, a wrong check value, an unknown code and wrong lengths.",
         "NoFrames",
-        rows,
+        &steps,
     )
 }

@@ -4,10 +4,10 @@ use Rattle.spelling.specs.Hexadecimal.{has_small}
 use Rattle.spelling.proofs.Capitals.{spelt_is_large, read_sized}
 use Rattle.spelling.proofs.hexadecimal.read_array.Goals as goal
 
-pub returns-then-has_small-clause-array : goal.returns-then-has_small-clause-array
-returns-then-has_small-clause-array g c = (refl, λ bytes s. cc (spelt_is_large c.args.text.now bytes s.0))
+pub returns-then-has_small : goal.returns-then-has_small
+returns-then-has_small g c = record { array = (refl, λ bytes s. cc (spelt_is_large c.args.text.now bytes s.0)) }
 
-pub returns-clause-array : goal.returns-clause-array
-returns-clause-array g c =
+pub returns : goal.returns
+returns g c =
     let small : has_small c.args.text.now ≡ false = sym c.has_small.ensures.small ∙ c.if-has_small.false in
-    rw c.or.ensures (read_sized c.args.text.now g.row.N c.from_hex.result small c.from_hex.ensures)
+    record { array = rw c.or.ensures (read_sized c.args.text.now g.row.N c.from_hex.result small c.from_hex.ensures) }

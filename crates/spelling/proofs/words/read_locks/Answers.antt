@@ -4,7 +4,7 @@ use Rattle.record.specs.Masks.{selects}
 use Rattle.spelling.proofs.Made.{made_by}
 use Rattle.spelling.proofs.words.read_locks.Goals as goal
 
-pub returns-clause-locks : goal.returns-clause-locks
-returns-clause-locks c =
+pub returns : goal.returns
+returns c =
     let h = c.from_fn.ensures.items in
-    (c.in_ok-bytes.bytes, c.in_ok-bytes.ensures.array, made_by _ _ (λ (address : ℕ). selects (slice_index c.in_ok-bytes.bytes (address / 8)) (address % 8)) (λ x y q called. search of_calls) c.from_fn.result 56 false h)
+    record { locks = (c.in_ok-bytes.bytes, c.in_ok-bytes.ensures.array, made_by _ _ (λ (address : ℕ). selects (slice_index c.in_ok-bytes.bytes (address / 8)) (address % 8)) (λ x y q called. search of_calls) c.from_fn.result 56 false h) }

@@ -4,8 +4,8 @@ use Rattle.std.proofs.lemmas.Result.{err_from_is_err_and}
 use Rattle.spelling.proofs.Capitals.{refused_permission}
 use Rattle.spelling.proofs.words.read_permission.Goals as goal
 
-pub returns-in_err-read_byte-clause-permission : goal.returns-in_err-read_byte-clause-permission
-returns-in_err-read_byte-clause-permission c =
+pub returns-in_err-read_byte : goal.returns-in_err-read_byte
+returns-in_err-read_byte c =
     let plain = sym c.eq.ensures ∙ c.if-eq.false in
     let p = err_from_is_err_and c.from_residual.result c.from_residual.ensures.1 in
-    rw p.1 (p.2 ∙ c.in_err-read_byte.ensures.byte.0, refused_permission c.args.text.now plain c.in_err-read_byte.ensures.byte.1)
+    record { permission = rw p.1 (p.2 ∙ c.in_err-read_byte.ensures.byte.0, refused_permission c.args.text.now plain c.in_err-read_byte.ensures.byte.1) }

@@ -1,0 +1,12 @@
+pub mod Bench
+pub mod Crc
+pub mod Field
+pub mod Frame
+pub mod Layers
+pub mod Protocol
+pub mod Record
+pub mod Reply
+pub mod Sheet
+pub mod Spelling
+pub mod Sweep
+pub mod Tag
