@@ -7,7 +7,7 @@ use Rattle.record.specs.declared.State.TheVariants.{Ready, Singulation, Inventor
 use Rattle.record.specs.declared.WriteMark.TheVariants.{Clear, Fading, Fresh}
 use Rattle.record.specs.declared.Tag.{Tag}
 use Rattle.tag.specs.Steps.{stepped, replied}
-use Rattle.worked_cases.specs.Words.{bytes, plain_but, only_locked, tag_of, tag_in, flagged_in, busy}
+use Rattle.worked_cases.specs.Words.{bytes, plain_but, locked_in, only_locked, tag_of, tag_in, flagged_in, busy}
 
 -- A tag, the frame that it hears, the tag after it, and its reply.
 abbrev pub step : Tag → String → Tag → Option (List ℕ) → Tag × String × Tag × Option (List ℕ)

@@ -10,6 +10,8 @@ loop-byte-preserved g c p =
     one_more _ _ _ _ _ _ _ c.loop-byte.byte-index c.loop-byte-test.true before gap (c.in_ok-write_byte-2.ensures gap.plain refl)
 
 pub returns : goal.returns
-returns g c = record { writes = λ p ok.
-    let first = c.in_ok-write_byte.ensures p refl in
-    all_shown _ _ _ _ _ c.args.self.now.bytes.now c.loop-byte.byte-index c.in-len1-up.len_at_least c.loop-byte-test.false first (c.loop-byte.invariant first.plain) }
+returns g c = record {
+  writes = λ p ok.
+      let first = c.in_ok-write_byte.ensures p refl in
+      all_shown _ _ _ _ _ c.args.self.now.bytes.now c.loop-byte.byte-index c.in-len1-up.len_at_least c.loop-byte-test.false first (c.loop-byte.invariant first.plain);
+}
