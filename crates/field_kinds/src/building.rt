@@ -19,8 +19,8 @@ pub(crate) fn bench_over(table: &mut [Tag]) -> anyhow::Result<Bench<'_>> {
     Ok(bench)
 }
 
-// Two fields as one. This and the next are generic, since taking a field out of its result gets no proof where a bench is
-// below.
+// Two fields as one. This and the next are generic, since taking a field out of its result gets no proof where a bench
+// is below.
 pub(crate) fn pair_of<L: Field + Drop, R: Field + Drop>(
     left: L,
     right: R,

@@ -1,5 +1,5 @@
 -- Which of the five words of a record is the first that is none. Assumes nothing.
-use Rattle.std.proofs.Common.{◌≡◌, ℕ, Bool, Ok, Err, inl, inr}
+use Rattle.std.proofs.Common.{ℕ, Bool, Ok, Err, inl, inr}
 use Rattle.std.specs.declared.str.SplitWhitespace.{SplitWhitespace}
 use Rattle.record.specs.declared.State.{State}
 use Rattle.record.specs.declared.WriteMark.{WriteMark}

@@ -1,5 +1,5 @@
--- The words of a record: what texts spell a bit, a state, a write mark, a permission and locks, and five of them at once.
--- Assumes nothing.
+-- The words of a record: what texts spell a bit, a state, a write mark, a permission and locks, and what five words do
+-- one behind another. Assumes nothing.
 use Rattle.std.specs.Prelude.{◌≡◌, ℕ, ◌/◌, ◌%◌, ◌⊎◌, Bool, true, false, List, map, codes, Option, Some, None, Result, Ok, Err, MatchOption, slice_index}
 use Rattle.std.specs.Borrow.{Bor}
 use Rattle.std.specs.List.{range_with_len}

@@ -92,7 +92,8 @@ pub fn read_parts(words: &mut SplitWhitespace<'_>, tag: Tag) -> Result<Tag, Miss
     })
 }
 
-// Each reader at the next word. One that took the reader as a closure would have to say of it all that these clauses do.
+// Each reader at the next word. One call that took the reader as a closure would have to say of it all that these
+// clauses do.
 fn next_state(words: &mut SplitWhitespace<'_>) -> Result<State, Misspelt>
     ensures { ReadsNext SpellsState Misspelt.State words.old words.new result }
 {

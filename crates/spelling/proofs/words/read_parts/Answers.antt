@@ -9,22 +9,24 @@ pub returns-in_err-next_bit-clause-err : goal.returns-in_err-next_bit-clause-err
 returns-in_err-next_bit-clause-err c =
     let p = err_from_is_err_and c.from_residual-in_err-next_bit.result c.from_residual-in_err-next_bit.ensures.1 in
     rw p.1 (subst (IsNoParts c.args.words.now c.next_bit.new.words) (sym p.2)
-    (no_flag c.args.words.now c.next_state.new.words c.in_ok-next_state.field-0 c.in_ok-next_state.ensures c.next_bit.new.words _ c.in_err-next_bit.ensures))
+    (no_flag _ _ _ c.in_ok-next_state.ensures _ _ c.in_err-next_bit.ensures))
 
 pub returns-in_err-next_byte-clause-err : goal.returns-in_err-next_byte-clause-err
 returns-in_err-next_byte-clause-err c =
     let p = err_from_is_err_and c.from_residual-in_err-next_byte.result c.from_residual-in_err-next_byte.ensures.1 in
     rw p.1 (subst (IsNoParts c.args.words.now c.next_byte.new.words) (sym p.2)
-    (no_counter c.args.words.now c.next_state.new.words c.in_ok-next_state.field-0 c.in_ok-next_state.ensures c.next_bit.new.words c.in_ok-next_bit.field-0 c.in_ok-next_bit.ensures c.next_byte.new.words _ c.in_err-next_byte.ensures))
+    (no_counter _ _ _ c.in_ok-next_state.ensures _ _ c.in_ok-next_bit.ensures _ _ c.in_err-next_byte.ensures))
 
 pub returns-in_err-next_mark-clause-err : goal.returns-in_err-next_mark-clause-err
 returns-in_err-next_mark-clause-err c =
     let p = err_from_is_err_and c.from_residual-in_err-next_mark.result c.from_residual-in_err-next_mark.ensures.1 in
     rw p.1 (subst (IsNoParts c.args.words.now c.next_mark.new.words) (sym p.2)
-    (no_mark c.args.words.now c.next_state.new.words c.in_ok-next_state.field-0 c.in_ok-next_state.ensures c.next_bit.new.words c.in_ok-next_bit.field-0 c.in_ok-next_bit.ensures c.next_byte.new.words c.in_ok-next_byte.field-0 c.in_ok-next_byte.ensures c.next_mark.new.words _ c.in_err-next_mark.ensures))
+    (no_mark _ _ _ c.in_ok-next_state.ensures _ _ c.in_ok-next_bit.ensures _ _ c.in_ok-next_byte.ensures
+    _ _ c.in_err-next_mark.ensures))
 
 pub returns-in_err-next_permission-clause-err : goal.returns-in_err-next_permission-clause-err
 returns-in_err-next_permission-clause-err c =
     let p = err_from_is_err_and c.from_residual-in_err-next_permission.result c.from_residual-in_err-next_permission.ensures.1 in
     rw p.1 (subst (IsNoParts c.args.words.now c.next_permission.new.words) (sym p.2)
-    (no_permission c.args.words.now c.next_state.new.words c.in_ok-next_state.field-0 c.in_ok-next_state.ensures c.next_bit.new.words c.in_ok-next_bit.field-0 c.in_ok-next_bit.ensures c.next_byte.new.words c.in_ok-next_byte.field-0 c.in_ok-next_byte.ensures c.next_mark.new.words c.next_permission.new.words c.in_ok-next_mark.field-0 _ c.in_ok-next_mark.ensures c.in_err-next_permission.ensures))
+    (no_permission _ _ _ c.in_ok-next_state.ensures _ _ c.in_ok-next_bit.ensures _ _ c.in_ok-next_byte.ensures
+    _ _ _ _ c.in_ok-next_mark.ensures c.in_err-next_permission.ensures))
