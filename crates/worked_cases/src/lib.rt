@@ -1,6 +1,6 @@
-// Worked cases at the limits, which hold the definitions that contracts cite to a second implementation. It lists them, in
-// specs/; each function here does nothing, and has as its contract that one listing holds: the definitions, computed on
-// every row, give what the row says.
+// Worked cases at the limits, which hold the definitions that contracts cite to a second implementation. It lists them,
+// in specs/; each function here does nothing, and has as its contract that one listing holds: the definitions, computed
+// on every row, give what the row says.
 #![tactic(auto)]
 
 pub mod checks;
