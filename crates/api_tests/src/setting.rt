@@ -3,29 +3,29 @@ use bench::bench::Bench;
 use field::hearing::Hearing;
 use protocol::command::Command;
 use record::{Serial, Tag};
-use rows::list::Rows;
+use slice_vec::vec::SliceVec;
 use slot::kinds::{ClashSlot, LoneSlot, Slot};
 use slot::lists::Lists;
-use slot::row::SlotRow;
-use spelling::sample::numbered_tag;
+use slot::listed::ListedSlot;
+use notation::sample::numbered_tag;
 use std::process::Abort;
 
 // The row in which the second tag lets the first go before.
 pub(crate) const COINS: [u64; 1] = [2];
 
 // The slots of the two tags, split by that row.
-pub(crate) const SLOTS: [SlotRow; 3] = [
-    SlotRow {
+pub(crate) const SLOTS: [ListedSlot; 3] = [
+    ListedSlot {
         command: Command::Select,
         hearing: Hearing::Clash,
         waiting: 0,
     },
-    SlotRow {
+    ListedSlot {
         command: Command::Query,
         hearing: Hearing::Lone,
         waiting: 1,
     },
-    SlotRow {
+    ListedSlot {
         command: Command::Scroll,
         hearing: Hearing::Lone,
         waiting: 0,
@@ -45,10 +45,10 @@ pub(crate) fn bench_over(table: &mut [Tag; 2]) -> Bench<'_> {
 }
 
 // Empty lists in some storage.
-pub(crate) fn lists_in<'a>(slots: &'a mut [SlotRow], serials: &'a mut [Serial]) -> Lists<'a> {
+pub(crate) fn lists_in<'a>(slots: &'a mut [ListedSlot], serials: &'a mut [Serial]) -> Lists<'a> {
     Lists {
-        slots: Rows::new(slots),
-        serials: Rows::new(serials),
+        slots: SliceVec::new(slots),
+        serials: SliceVec::new(serials),
     }
 }
 

@@ -4,7 +4,7 @@ use protocol::refusal::Refusal;
 use record::State;
 use slot::counts::Counts;
 use slot::kinds::Unsplit;
-use slot::row::BLANK;
+use slot::listed::BLANK;
 use slot::working::open;
 
 // One clash and one lone slot, each opened by a command.

@@ -1,9 +1,9 @@
 // What is read and refused of each kind of word.
 use record::WriteMark;
-use spelling::hexadecimal::{read_array, read_byte};
-use spelling::misspelt::Misspelt;
-use spelling::misspelt::Misspelt::{Bit, Bytes, Mark};
-use spelling::words::{read_bit, read_locks, read_mark, read_permission};
+use notation::hexadecimal::{read_array, read_byte};
+use notation::error::NotationError;
+use notation::error::NotationError::{Bit, Bytes, Mark};
+use notation::words::{read_bit, read_locks, read_mark, read_permission};
 
 // The crate `hex` reads small letters too, which are no digits here.
 #[test]
@@ -11,7 +11,7 @@ fn bytes_are_read(rt: HostRuntime) {
     for text in [
         "0", "000", "0G", "0x", "+1", " 0", "--", "-0", "ff", "Ff", "fF", "a0", "0a",
     ] {
-        assert!(rt; read_byte(text) == Err(Misspelt::Bytes), "{text}");
+        assert!(rt; read_byte(text) == Err(NotationError::Bytes), "{text}");
     }
     assert!(rt; read_byte("9C") == Ok(0x9c));
     assert!(rt; read_array::<3>("0001FE") == Ok([0x00, 0x01, 0xfe]));
@@ -42,5 +42,5 @@ fn locks_from_the_highest_bit_on(rt: HostRuntime) {
         let wanted = address < 2 || address == 55;
         assert!(rt; *is_locked == wanted, "{address}");
     }
-    assert!(rt; read_locks("C00000000000") == Err(Misspelt::Bytes));
+    assert!(rt; read_locks("C00000000000") == Err(NotationError::Bytes));
 }

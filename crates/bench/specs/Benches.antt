@@ -5,7 +5,7 @@ use Rattle.record.specs.declared.Tag.{Tag}
 use Rattle.bench.specs.declared.bench.Bench.{Bench}
 use Rattle.bench.specs.declared.single.Single.{Single}
 
--- The caller's table that a bench plays on.
+-- The caller's table that a bench has.
 abbrev pub table_of : Bench → MutBor (List Tag)
 table_of bench = bench.table
 

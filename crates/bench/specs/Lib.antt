@@ -1,3 +1,3 @@
 pub mod Benches
+pub mod Heard
 pub mod Tables
-pub mod Voices

@@ -1,4 +1,4 @@
-// A table of tags that is the caller's, played as a field.
+// A table of tags that is the caller's, as a field.
 ghost use Rattle.std.specs.Prelude.{◌≡◌, ◌≤◌, length};
 ghost use Rattle.field.specs.Sends.{Sized};
 ghost use Rattle.bench.specs.Tables.{place_of};

@@ -1,9 +1,9 @@
 // Tables of tags, as fields.
 #![tactic(auto)]
 
-mod alone;
+mod single_field;
 pub mod bench;
 mod measuring;
-mod playing;
+mod bench_field;
 pub mod single;
-mod walk;
+mod table_walk;

@@ -3,8 +3,8 @@ use crc::check_value;
 use frame::making::make;
 use frame::opening::{Frame, open};
 use protocol::command::PARAMETERS;
-use spelling::hexadecimal::{Hex, read_byte, read_bytes};
-use spelling::words::{no_word, word};
+use notation::hexadecimal::{Hex, read_byte, read_bytes};
+use notation::words::{no_word, word};
 use std::alloc::{AllocError, Global};
 use std::{fmt, iter};
 

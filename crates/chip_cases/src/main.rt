@@ -8,10 +8,10 @@ mod showing;
 mod tags;
 
 use crate::frames::{answer_check, answer_make, answer_open};
-use crate::tags::Asked;
+use crate::tags::AskedTag;
 use anyhow::Context;
 use record::{MEMORY_LENGTH, Tag};
-use spelling::line::Line;
+use notation::line::Line;
 use std::io::{BufRead, BufReader};
 use std::process::ExitCode;
 
@@ -30,7 +30,7 @@ Answers questions about frames and about one tag, one to a line of standard inpu
 const QUESTIONS: &str =
     "no question: one begins with `check`, `open`, `make`, `new`, `locks`, `set`, `step` or `gap`";
 
-fn answer(asked: &mut Asked<'_>, line: &str) -> anyhow::Result<()> {
+fn answer(asked: &mut AskedTag<'_>, line: &str) -> anyhow::Result<()> {
     let (verb, rest) = line.split_once(' ').context(QUESTIONS)?;
     // A match and no table of closures, since each verb has words of its own.
     match verb {
@@ -42,7 +42,7 @@ fn answer(asked: &mut Asked<'_>, line: &str) -> anyhow::Result<()> {
 }
 
 fn run(rt: &HostRuntime) -> anyhow::Result<()> {
-    let mut asked = Asked {
+    let mut asked = AskedTag {
         rt,
         tag: Tag::new([0; MEMORY_LENGTH]),
     };

@@ -1,17 +1,17 @@
 // Answers, as they are written.
 use record::Tag;
-use spelling::hexadecimal::Hex;
+use notation::hexadecimal::Hex;
 use std::fmt;
 
 // A tag's record, where it is no longer what it was, and its reply.
 #[derive(Drop)]
-pub(crate) struct Answer<'a> {
+pub(crate) struct TagAnswer<'a> {
     pub(crate) before: &'a Tag,
     pub(crate) after: &'a Tag,
     pub(crate) reply: &'a [u8],
 }
 
-impl fmt::Display for Answer<'_> {
+impl fmt::Display for TagAnswer<'_> {
     fn fmt<W: fmt::Write>(&self, f: &mut fmt::Formatter<W>) -> fmt::Result {
         let state = self.after.state;
         let flag = u8::from(self.after.identified);

@@ -1,28 +1,28 @@
 // The questions about one tag.
 use crate::QUESTIONS;
-use crate::showing::Answer;
+use crate::showing::TagAnswer;
 use anyhow::bail;
 use frame::opening::open;
 use record::{MEMORY_LENGTH, Tag};
 use reply::Reply;
-use spelling::hexadecimal::{read_array, read_bytes};
-use spelling::sent::replied;
-use spelling::words::{no_word, read_bit, read_locks, read_parts, word};
+use notation::hexadecimal::{read_array, read_bytes};
+use notation::encoding::write_reply;
+use notation::words::{no_word, read_bit, read_locks, read_parts, word};
 use tag::step;
 
 // A tag that is asked, and where its answers are printed.
 #[derive(Drop)]
-pub(crate) struct Asked<'a> {
+pub(crate) struct AskedTag<'a> {
     pub(crate) rt: &'a HostRuntime,
     pub(crate) tag: Tag,
 }
 
-impl Asked<'_> {
+impl AskedTag<'_> {
     pub(crate) fn answer(&mut self, verb: &str, rest: &str) -> anyhow::Result<()> {
         let before = self.tag;
         let reply = self.put(verb, rest)?;
-        let bytes = replied(self.rt.alloc(), &self.tag, reply)?;
-        let answer = Answer {
+        let bytes = write_reply(self.rt.alloc(), &self.tag, reply)?;
+        let answer = TagAnswer {
             before: &before,
             after: &self.tag,
             reply: bytes.as_slice(),

@@ -5,7 +5,7 @@ use Rattle.std.proofs.Common.{◌≡◌, ℕ, zero, suc, ◌+◌, ◌-◌, ◌*�
 use lib.Bits.{bit_xor, differ, xor_block, xor_shifted, xor_lt, xor_assoc, xor_comm, xor_zero_r, xor_step}
 use Rattle.std.proofs.lemmas.List.Sums.{fold-append}
 use Rattle.std.proofs.lemmas.Bool.{lt-ltb, le-ltb, cond-true, cond-false, cases_lt}
-use Rattle.crc.specs.Check.{moved_up, bit_taken, bits, byte_taken, sent}
+use Rattle.crc.specs.Check.{moved_up, bit_taken, bits, byte_taken, high_byte_first}
 
 xor_double : (a b : ℕ) → bit_xor a b * 2 ≡ bit_xor (a * 2) (b * 2)
 xor_double a b =
@@ -240,7 +240,7 @@ residue_from r hr =
     ∙ ap (λ (q : ℕ). times 8 (times 8 q)) (complement 16 r hr)
 
 -- A message, and the register that it leaves, inverted, lead to one fixed value.
-pub residue : (r : ℕ) (message : List ℕ) → r < 0x10000 → fold byte_taken r (message ++ sent (0xffff - fold byte_taken r message)) ≡ 0x1d0f
+pub residue : (r : ℕ) (message : List ℕ) → r < 0x10000 → fold byte_taken r (message ++ high_byte_first (0xffff - fold byte_taken r message)) ≡ 0x1d0f
 residue r message h =
-    fold-append byte_taken r message (sent (0xffff - fold byte_taken r message))
+    fold-append byte_taken r message (high_byte_first (0xffff - fold byte_taken r message))
     ∙ residue_from (fold byte_taken r message) (folded_fits r message h)

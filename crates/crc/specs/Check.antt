@@ -27,9 +27,9 @@ abbrev pub check_value : List ℕ → ℕ
 check_value message = 0xffff - register message
 
 -- A number of two bytes as it is sent, high byte first.
-abbrev pub sent : ℕ → List ℕ
-sent v = v / 256 % 256 ∷ v % 256 ∷ []
+abbrev pub high_byte_first : ℕ → List ℕ
+high_byte_first v = v / 256 % 256 ∷ v % 256 ∷ []
 
 -- A message with its check value behind it: what a reader sends and what a tag replies.
 unfoldable pub sealed : List ℕ → List ℕ
-sealed message = message ++ sent (check_value message)
+sealed message = message ++ high_byte_first (check_value message)

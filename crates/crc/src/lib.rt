@@ -3,7 +3,7 @@
 #![tactic(auto)]
 
 ghost use Rattle.std.specs.Prelude.{◌≡◌, ℕ, ◌-◌, ◌++◌, if◌then◌else◌, fold};
-ghost use Rattle.crc.specs.Check.{bit_taken, byte_taken, register, check_value, sent};
+ghost use Rattle.crc.specs.Check.{bit_taken, byte_taken, register, check_value, high_byte_first};
 ghost use Rattle.crc.specs.Standard.{CheckVector};
 
 mod table;
@@ -80,7 +80,7 @@ impl Register {
 #[tactic(auto, using(crate::proofs::Standard::check_vector))]
 pub fn check_value(message: &[u8]) -> u16
     ensures value { result ≡ check_value message.now }
-    ensures residue { register (message.now ++ sent result) ≡ 0x1d0f }
+    ensures residue { register (message.now ++ high_byte_first result) ≡ 0x1d0f }
     ensures standard { CheckVector }
 {
     ONES - after_bytes(PRESET, message)
@@ -89,7 +89,7 @@ pub fn check_value(message: &[u8]) -> u16
 // The register after some bytes. They and the register that is then left, inverted, always lead to the same value.
 fn after_bytes(register: u16, bytes: &[u8]) -> u16
     ensures value { result ≡ fold byte_taken register bytes.now }
-    ensures residue { fold byte_taken register (bytes.now ++ sent (0xffff - result)) ≡ 0x1d0f }
+    ensures residue { fold byte_taken register (bytes.now ++ high_byte_first (0xffff - result)) ≡ 0x1d0f }
 {
     let mut value = register;
     let mut left = bytes;

@@ -4,7 +4,7 @@ use Rattle.std.proofs.lemmas.List.{append_assoc, length-append, length-replicate
 use Rattle.std.proofs.lemmas.Slice.{drop-append-drop}
 use Rattle.std.proofs.lemmas.Bool.{cases_lt}
 use borrow.Author.Tests.{ltb-false}
-use Rattle.frame.specs.Makings.{leaving, writing}
+use Rattle.frame.specs.Makings.{buffer_after, writing}
 use Rattle.field.specs.Sends.{is_short, padded, cleared}
 
 pub padded_none : (n : ℕ) → padded n [] ≡ replicate n 0
@@ -19,7 +19,7 @@ cleared_long b room =
 
 -- A reply over the front of a buffer that is cleared.
 pub delivered : (n : ℕ) (reply b x y : List ℕ) → length reply ≤ n → n ≤ length b → x ≡ padded n [] ++ drop n b
-    → y ≡ leaving (writing reply (length x)) x → y ≡ padded n reply ++ drop n b
+    → y ≡ buffer_after (writing reply (length x)) x → y ≡ padded n reply ++ drop n b
 unfolding padded
 delivered n reply b x y fits room e f =
     let z : x ≡ replicate n 0 ++ drop n b = e ∙ ap (λ (k : ℕ). replicate k 0 ++ drop n b) (omega arith) in
@@ -32,7 +32,7 @@ delivered n reply b x y fits room e f =
 
 -- A reply written into a buffer that was cleared.
 pub written_cleared : (reply b : List ℕ) → length reply ≤ 258 → 258 ≤ length b
-    → leaving (writing reply (length (cleared b))) (cleared b) ≡ padded 258 reply ++ drop 258 b
+    → buffer_after (writing reply (length (cleared b))) (cleared b) ≡ padded 258 reply ++ drop 258 b
 written_cleared reply b fits room = delivered 258 reply b (cleared b) _ fits room (cleared_long b room) refl
 
 -- A send that is heard had room for every reply.

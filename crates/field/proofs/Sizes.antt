@@ -5,10 +5,10 @@ use Rattle.std.proofs.lemmas.Bool.{eqb-true}
 use Rattle.std.proofs.lemmas.List.Elements.{All-cons, All-nil, All-from_recursion, recursion_from_All}
 use Rattle.frame.specs.Openings.{Opening, opening}
 use Rattle.record.specs.declared.Tag.{Tag}
-use Rattle.record.specs.Gaps.{gapped}
+use Rattle.record.specs.Gaps.{after_gap}
 use Rattle.record.proofs.Sizes.{length-gapped}
 use Rattle.tag.proofs.Sizes.{length-stepped}
-use Rattle.field.specs.Sends.{first_coin, stepped_all, gapped_all, is_short, sent_to, Sized}
+use Rattle.field.specs.Sends.{first_coin, stepped_all, after_gap_all, is_short, tags_after_send, Sized}
 
 abbrev pub IsSized : Tag → Type 0
 IsSized t = length t.memory ≡ 56
@@ -45,7 +45,7 @@ each change keeps (t ∷ ts) h = (keeps t ∙ h.0, each change keeps ts h.1)
 pub sized_stepped : (frame : Opening) (row : ℕ) (tags : List Tag) → Sized tags → Sized (stepped_all frame row tags)
 sized_stepped frame row tags h = All-from_recursion IsSized _ (stepped_each frame row tags (recursion_from_All IsSized tags h))
 
-pub sized_sent : (room : ℕ) (bytes : List ℕ) (row : ℕ) (tags : List Tag) → Sized tags → Sized (sent_to room bytes row tags)
+pub sized_sent : (room : ℕ) (bytes : List ℕ) (row : ℕ) (tags : List Tag) → Sized tags → Sized (tags_after_send room bytes row tags)
 sized_sent room bytes row tags h = go (is_short room)
   where
     go : (short : Bool) → Sized (cond short tags (stepped_all (opening bytes) row tags))
@@ -56,5 +56,5 @@ sized_sent room bytes row tags h = go (is_short room)
 pub sized_each : (change : Tag → Tag) → ((t : Tag) → length (change t).memory ≡ length t.memory) → (tags : List Tag) → Sized tags → Sized (map change tags)
 sized_each change keeps tags h = All-from_recursion IsSized _ (each change keeps tags (recursion_from_All IsSized tags h))
 
-pub sized_gapped : (microseconds : ℕ) (tags : List Tag) → Sized tags → Sized (gapped_all microseconds tags)
-sized_gapped microseconds tags h = sized_each (gapped microseconds) (length-gapped microseconds) tags h
+pub sized_gapped : (microseconds : ℕ) (tags : List Tag) → Sized tags → Sized (after_gap_all microseconds tags)
+sized_gapped microseconds tags h = sized_each (after_gap microseconds) (length-gapped microseconds) tags h

@@ -7,9 +7,9 @@ use Rattle.std.specs.Option.{option_map}
 use Rattle.std.specs.List.{slice_get}
 use Rattle.frame.specs.Openings.{Opening}
 use Rattle.record.specs.declared.Tag.{Tag}
-use Rattle.record.specs.Gaps.{gapped}
+use Rattle.record.specs.Gaps.{after_gap}
 use Rattle.tag.specs.Steps.{stepped}
-use Rattle.field.specs.Sends.{coin_at, stepped_all, gapped_all, InPlace}
+use Rattle.field.specs.Sends.{coin_at, stepped_all, after_gap_all, InPlace}
 
 -- One place more is one halving more.
 pub halved : (row n : ℕ) → row / 2 / 2 ^ n ≡ row / 2 ^ suc n
@@ -32,6 +32,6 @@ nth-stepped frame row (t ∷ ts) (suc place) =
 pub stepped_in_place : (frame : Opening) (row : ℕ) (tags : List Tag) → InPlace (λ place. stepped frame (coin_at row place)) tags (stepped_all frame row tags)
 stepped_in_place frame row tags = record { places = length-stepped frame row tags; each = nth-stepped frame row tags }
 
-pub gapped_in_place : (microseconds : ℕ) (tags : List Tag) → InPlace (λ _. gapped microseconds) tags (gapped_all microseconds tags)
+pub gapped_in_place : (microseconds : ℕ) (tags : List Tag) → InPlace (λ _. after_gap microseconds) tags (after_gap_all microseconds tags)
 gapped_in_place microseconds tags =
-    record { places = length-map tags (gapped microseconds); each = slice_get-map (gapped microseconds) tags }
+    record { places = length-map tags (after_gap microseconds); each = slice_get-map (after_gap microseconds) tags }

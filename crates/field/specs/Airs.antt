@@ -20,9 +20,9 @@ mixed (one reply) many = many
 mixed many other = many
 
 -- What one tag adds.
-abbrev pub voice : Option (List ℕ) → Air
-voice None = silent
-voice (Some reply) = one reply
+abbrev pub air_of_one : Option (List ℕ) → Air
+air_of_one None = silent
+air_of_one (Some reply) = one reply
 
 abbrev pub is_silent : Air → Bool
 is_silent silent = true
@@ -53,16 +53,16 @@ MayHear (one reply) h = (h ≡ Lone) ⊎ (h ≡ Clash)
 MayHear many h = h ≡ Clash
 
 -- What is heard where every lone reply is heard as lone.
-abbrev pub plainly : Air → Hearing
-plainly silent = Silence
-plainly (one reply) = Lone
-plainly many = Clash
+abbrev pub plain_hearing : Air → Hearing
+plain_hearing silent = Silence
+plain_hearing (one reply) = Lone
+plain_hearing many = Clash
 
 -- The bytes that are heard: those of a lone reply.
-abbrev pub caught : Hearing → Air → List ℕ
-caught Silence air = []
-caught Lone air = only_reply air
-caught Clash air = []
+abbrev pub heard_bytes : Hearing → Air → List ℕ
+heard_bytes Silence air = []
+heard_bytes Lone air = only_reply air
+heard_bytes Clash air = []
 
 -- What is heard of two groups at once: silence with x is x, and two that are not silent are a clash.
 abbrev pub together : Hearing → Hearing → Hearing

@@ -7,11 +7,11 @@ use Rattle.std.specs.List.{slice_get}
 use Rattle.protocol.specs.declared.refusal.Refusal.{Refusal}
 use Rattle.frame.specs.Openings.{Opening, opening}
 use Rattle.record.specs.declared.Tag.{Tag}
-use Rattle.record.specs.Gaps.{gapped}
+use Rattle.record.specs.Gaps.{after_gap}
 use Rattle.reply.specs.Replies.{longest_reply}
 use Rattle.tag.specs.Steps.{stepped, replied}
 use Rattle.field.specs.declared.hearing.Hearing.{Hearing}
-use Rattle.field.specs.Airs.{Air, silent, mixed, voice, caught}
+use Rattle.field.specs.Airs.{Air, silent, mixed, air_of_one, heard_bytes}
 
 -- The coin of the first place: the row's lowest bit.
 abbrev pub first_coin : ℕ → Bool
@@ -33,19 +33,19 @@ stepped_all frame row (t ∷ ts) = stepped frame (first_coin row) t ∷ stepped_
 -- All replies to a frame.
 unfoldable pub on_air : Opening → ℕ → List Tag → Air
 on_air frame row [] = silent
-on_air frame row (t ∷ ts) = mixed (voice (replied frame (first_coin row) t)) (on_air frame (row / 2) ts)
+on_air frame row (t ∷ ts) = mixed (air_of_one (replied frame (first_coin row) t)) (on_air frame (row / 2) ts)
 
 -- A gap of some microseconds, for all tags.
-abbrev pub gapped_all : ℕ → List Tag → List Tag
-gapped_all us tags = map (gapped us) tags
+abbrev pub after_gap_all : ℕ → List Tag → List Tag
+after_gap_all us tags = map (after_gap us) tags
 
 -- A send with a reply buffer that is too short does nothing.
 abbrev pub is_short : ℕ → Bool
 is_short room = nat_lt room longest_reply
 
 -- The tags after a send.
-abbrev pub sent_to : ℕ → List ℕ → ℕ → List Tag → List Tag
-sent_to room bytes row tags = if is_short room then tags else stepped_all (opening bytes) row tags
+abbrev pub tags_after_send : ℕ → List ℕ → ℕ → List Tag → List Tag
+tags_after_send room bytes row tags = if is_short room then tags else stepped_all (opening bytes) row tags
 
 -- Some bytes followed by 00, so many in all.
 unfoldable pub padded : ℕ → List ℕ → List ℕ
@@ -57,18 +57,18 @@ cleared buffer = replicate (min (length buffer) longest_reply) 0 ++ drop longest
 
 -- A reply buffer after a send: what is heard and 00 behind it, as long as the longest reply in all, and then what was
 -- there. A refusal changes nothing.
-abbrev pub left_in : Result Hearing Refusal → Air → List ℕ → List ℕ
-left_in (Ok h) air buffer = padded longest_reply (caught h air) ++ drop longest_reply buffer
-left_in (Err e) air buffer = buffer
+abbrev pub buffer_after_send : Result Hearing Refusal → Air → List ℕ → List ℕ
+buffer_after_send (Ok h) air buffer = padded longest_reply (heard_bytes h air) ++ drop longest_reply buffer
+buffer_after_send (Err e) air buffer = buffer
 
 -- Each tag's memory has its 56 bytes.
 abbrev pub Sized : List Tag → Type 0
 Sized tags = All (λ t. length t.memory ≡ 56) tags
 
 -- What a kind promises of a send, by what is answered: something of what is heard, and of a refusal that nothing changes.
-abbrev pub Answered : {F : Type 0} → Result Hearing Refusal → (Hearing → Type 0) → F → F → Type 0
-Answered (Ok h) promise before after = promise h
-Answered (Err e) promise before after = after ≡ before
+abbrev pub IfHeard : {F : Type 0} → Result Hearing Refusal → (Hearing → Type 0) → F → F → Type 0
+IfHeard (Ok h) promise before after = promise h
+IfHeard (Err e) promise before after = after ≡ before
 
 -- No tag comes or goes, and what becomes of the tag at a place depends on nothing but that tag and its place.
 pub record InPlace (change : ℕ → Tag → Tag) (before after : List Tag) : Type 0 where

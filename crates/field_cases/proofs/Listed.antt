@@ -3,9 +3,9 @@ use Rattle.std.proofs.Common.{◌≡◌, ℕ, false, List, [], Ok, inl, inr, ari
 use Rattle.std.specs.Int.{w64, from_be_bytes}
 use Rattle.std.specs.Result.{result_unwrap_or}
 use Rattle.hex.specs.Hex.{decode_of, decode_pairs, decode_sized}
-use Rattle.spelling.specs.Hexadecimal.{has_small}
-use Rattle.spelling.proofs.Capitals.{spells_decoded, spells_sized}
-use Rattle.field_cases.specs.Fingerprints.{byte_taken, tag_taken}
+use Rattle.notation.specs.Hexadecimal.{has_small}
+use Rattle.notation.proofs.Capitals.{spells_decoded, spells_sized}
+use Rattle.field_cases.specs.Fingerprints.{byte_mixed, tag_mixed}
 use Rattle.field_cases.specs.Listings.{BytesTaken, TagsTaken, SplitWords, SingleWords, SpeltRows, SpeltSendings, PartsTaken, NodesNested}
 use Rattle.field_cases.specs.Questions.{SpellsRow}
 
@@ -16,11 +16,11 @@ row_decoded : (text : List ℕ) (row : ℕ) → has_small text ≡ false → dec
 row_decoded text row small h same = (decoded text, spells_sized text 8 (decoded text) small h, same)
 
 pub bytes_taken : BytesTaken
-unfolding BytesTaken byte_taken
+unfolding BytesTaken byte_mixed
 bytes_taken = search
 
 pub tags_taken : TagsTaken
-unfolding TagsTaken byte_taken tag_taken
+unfolding TagsTaken byte_mixed tag_mixed
 tags_taken = search
 
 pub split_words : SplitWords

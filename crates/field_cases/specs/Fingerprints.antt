@@ -10,12 +10,12 @@ abbrev pub blank : ℕ
 blank = 0xcbf29ce484222325
 
 -- One byte more.
-unfoldable pub byte_taken : ℕ → ℕ → ℕ
-byte_taken value byte = bit_xor value byte * 0x100000001b3 % 2 ^ 64
+unfoldable pub byte_mixed : ℕ → ℕ → ℕ
+byte_mixed value byte = bit_xor value byte * 0x100000001b3 % 2 ^ 64
 
 -- The fingerprint of some bytes.
 abbrev pub fingerprint : List ℕ → ℕ
-fingerprint bytes = fold byte_taken blank bytes
+fingerprint bytes = fold byte_mixed blank bytes
 
 -- Every part of a record, as bytes.
 abbrev pub tag_bytes : Tag → List ℕ
@@ -24,9 +24,9 @@ tag_bytes t =
     ++ (state_number t.state ∷ from_bool t.identified ∷ t.counter ∷ mark_number t.mark ∷ from_bool (is_some t.permission) ∷ unwrap_or t.permission 0 ∷ [])
 
 -- One record more.
-unfoldable pub tag_taken : ℕ → Tag → ℕ
-tag_taken value t = fold byte_taken value (tag_bytes t)
+unfoldable pub tag_mixed : ℕ → Tag → ℕ
+tag_mixed value t = fold byte_mixed value (tag_bytes t)
 
 -- The fingerprint of some records, one after the other.
 abbrev pub tags_fingerprint : List Tag → ℕ
-tags_fingerprint tags = fold tag_taken blank tags
+tags_fingerprint tags = fold tag_mixed blank tags

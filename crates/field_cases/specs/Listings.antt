@@ -8,8 +8,8 @@ use Rattle.record.specs.declared.State.TheVariants.{Singulation, Inventoried}
 use Rattle.record.specs.declared.Tag.{Tag}
 use Rattle.record.specs.declared.WriteMark.TheVariants.{Fresh}
 use Rattle.record.specs.Records.{new_tag}
-use Rattle.layers.specs.declared.pair.Pair.{Pair}
-use Rattle.layers.specs.declared.spoiler.Spoiler.{Spoiler}
+use Rattle.composite_fields.specs.declared.pair.Pair.{Pair}
+use Rattle.composite_fields.specs.declared.spoiler.Spoiler.{Spoiler}
 use Rattle.field_cases.specs.declared.building.Parts.{Parts}
 use Rattle.field_cases.specs.declared.building.Parts.TheVariants as parts
 use Rattle.field_cases.specs.declared.nesting.Node.{Node}

@@ -7,10 +7,10 @@ use Rattle.field.specs.declared.hearing.Hearing.{Hearing}
 use Rattle.bench.specs.declared.bench.Bench.{Bench}
 use Rattle.bench.specs.declared.single.Single.{Single}
 use Rattle.bench.specs.Benches.{table_of, tags_of}
-use Rattle.layers.specs.declared.pair.Pair.{Pair}
-use Rattle.layers.specs.declared.spoiler.Spoiler.{Spoiler}
-use Rattle.layers.specs.Pairs.{left_of, right_of, paired}
-use Rattle.layers.specs.Spoilers.{field_of}
+use Rattle.composite_fields.specs.declared.pair.Pair.{Pair}
+use Rattle.composite_fields.specs.declared.spoiler.Spoiler.{Spoiler}
+use Rattle.composite_fields.specs.Pairs.{left_of, right_of, paired}
+use Rattle.composite_fields.specs.Spoilers.{field_of}
 use Rattle.field_cases.specs.declared.nesting.Leaf.{Leaf}
 use Rattle.field_cases.specs.declared.nesting.Leaf.TheVariants.{Table, Lone}
 use Rattle.field_cases.specs.declared.nesting.Node.{Node}
@@ -35,10 +35,10 @@ module _ (on_bench : Kind Bench) (on_single : Kind Single) where
   leaf_hears (Lone s) bytes row answer (Lone t) = on_single.hears s bytes row answer t
   leaf_hears before bytes row answer after = ⊥
 
-  abbrev pub leaf_waits : Leaf → ℕ → Leaf → Type 0
-  leaf_waits (Table b) us (Table c) = on_bench.waits b us c
-  leaf_waits (Lone s) us (Lone t) = on_single.waits s us t
-  leaf_waits before us after = ⊥
+  abbrev pub leaf_passes : Leaf → ℕ → Leaf → Type 0
+  leaf_passes (Table b) us (Table c) = on_bench.passes b us c
+  leaf_passes (Lone s) us (Lone t) = on_single.passes s us t
+  leaf_passes before us after = ⊥
 
 module _ {F : Type 0} (bare : Kind F) (spoiled : Kind (Spoiler F)) (both : Kind (Pair F F)) where
   abbrev pub node_faithful : Node F → Bool
@@ -52,8 +52,8 @@ module _ {F : Type 0} (bare : Kind F) (spoiled : Kind (Spoiler F)) (both : Kind 
   node_hears (Paired p) bytes row answer (Paired q) = both.hears p bytes row answer q
   node_hears before bytes row answer after = ⊥
 
-  abbrev pub node_waits : Node F → ℕ → Node F → Type 0
-  node_waits (Bare f) us (Bare g) = bare.waits f us g
-  node_waits (Spoiled s) us (Spoiled t) = spoiled.waits s us t
-  node_waits (Paired p) us (Paired q) = both.waits p us q
-  node_waits before us after = ⊥
+  abbrev pub node_passes : Node F → ℕ → Node F → Type 0
+  node_passes (Bare f) us (Bare g) = bare.passes f us g
+  node_passes (Spoiled s) us (Spoiled t) = spoiled.passes s us t
+  node_passes (Paired p) us (Paired q) = both.passes p us q
+  node_passes before us after = ⊥

@@ -4,8 +4,8 @@ use Rattle.std.specs.Int.{w64, from_be_bytes}
 use Rattle.std.specs.List.{before_first, after_first, position_or_len}
 use Rattle.std.specs.Str.Parse.{IsNumeral, digits_value, without_leading_plus}
 use Rattle.record.specs.declared.Tag.{Tag}
-use Rattle.field.specs.Sends.{sent_to, gapped_all}
-use Rattle.spelling.specs.Hexadecimal.{SpellsArray, SpellsBytes}
+use Rattle.field.specs.Sends.{tags_after_send, after_gap_all}
+use Rattle.notation.specs.Hexadecimal.{SpellsArray, SpellsBytes}
 
 abbrev pub is_space : ℕ → Bool
 is_space byte = byte == 32
@@ -40,13 +40,13 @@ pub record Sends (text : List ℕ) (before after : List Tag) : Type 0 where
   pub room : ℕ
   pub frame : List ℕ
   pub spelt : SpellsSending text row room frame
-  pub tags : after ≡ sent_to room frame row before
+  pub tags : after ≡ tags_after_send room frame row before
 
 -- And before and after a gap that a text spells.
 pub record Passes (text : List ℕ) (before after : List Tag) : Type 0 where
   pub microseconds : ℕ
   pub spelt : SpellsNumber text microseconds
-  pub tags : after ≡ gapped_all microseconds before
+  pub tags : after ≡ after_gap_all microseconds before
 
 -- A question to a field is a send, a gap or a sweep.
 abbrev pub Asks : (verb rest : List ℕ) → List Tag → List Tag → Type 0

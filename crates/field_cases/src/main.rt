@@ -1,4 +1,4 @@
-// Answers questions about fields and sweeps of them, one to a line of standard input, in plays: `tag STATE FLAG COUNTER MARK
+// Answers questions about fields and sweeps of them, one to a line of standard input, in cases: `tag STATE FLAG COUNTER MARK
 // PERMISSION LOCKS MEMORY` and `find SERIAL` about a table, then `field NESTING` over it, then `send ROW ROOM FRAME`, `gap
 // MICROSECONDS` and `sweep BUDGET SLOTS SERIALS ROW...` to that field, then `end`. A sweep is lent so many rows of each
 // list's storage, and rows of coins. The answers of another implementation are stored beside it, for comparison.
@@ -7,13 +7,13 @@
 mod asking;
 mod building;
 mod nesting;
-mod playing;
+mod cases;
 mod reading;
 mod showing;
 mod storage;
 mod worked;
 
-use crate::playing::play_all;
+use crate::cases::answer_cases;
 use std::process::ExitCode;
 
 const USAGE: &str = "usage: field_cases < QUESTIONS
@@ -30,6 +30,6 @@ fn main(rt: HostRuntime) -> anyhow::Result<ExitCode> {
     if let Some(code) = usage::answer(&rt, USAGE)? {
         return Ok(code);
     }
-    play_all(&rt)?;
+    answer_cases(&rt)?;
     Ok(ExitCode::SUCCESS)
 }

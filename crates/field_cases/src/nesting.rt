@@ -1,6 +1,6 @@
 // Fields of every nesting, up to some layers: kinds of field like any other.
-ghost use Rattle.field_cases.specs.Nestings.{leaf_tags, leaf_faithful, leaf_hears, leaf_waits};
-ghost use Rattle.field_cases.specs.Nestings.{node_tags, node_faithful, node_hears, node_waits};
+ghost use Rattle.field_cases.specs.Nestings.{leaf_tags, leaf_faithful, leaf_hears, leaf_passes};
+ghost use Rattle.field_cases.specs.Nestings.{node_tags, node_faithful, node_hears, node_passes};
 ghost use Rattle.field_cases.specs.declared.nesting.Leaf.TheVariants as leaf;
 ghost use Rattle.field_cases.specs.declared.nesting.Node.TheVariants as node;
 
@@ -9,8 +9,8 @@ use bench::single::Single;
 use field::field::Field;
 use field::hearing::Hearing;
 use field::lending::Lending;
-use layers::pair::Pair;
-use layers::spoiler::Spoiler;
+use composite_fields::pair::Pair;
+use composite_fields::spoiler::Spoiler;
 use protocol::refusal::Refusal;
 use record::Tag;
 
@@ -43,7 +43,7 @@ impl<'a> Field for Leaf<'a> {
     // It promises what the field in it does, and stays of its kind.
     ghost hears = { leaf_hears ⟦<Bench<'a> as Field>⟧ ⟦<Single as Field>⟧ };
 
-    ghost waits = { leaf_waits ⟦<Bench<'a> as Field>⟧ ⟦<Single as Field>⟧ };
+    ghost passes = { leaf_passes ⟦<Bench<'a> as Field>⟧ ⟦<Single as Field>⟧ };
 
     fn places(&self) -> usize {
         match self {
@@ -104,7 +104,7 @@ impl<F: Field> Field for Node<F> {
 
     ghost hears = { node_hears F.Field ⟦<Spoiler<F> as Field>⟧ ⟦<Pair<F, F> as Field>⟧ };
 
-    ghost waits = { node_waits F.Field ⟦<Spoiler<F> as Field>⟧ ⟦<Pair<F, F> as Field>⟧ };
+    ghost passes = { node_passes F.Field ⟦<Spoiler<F> as Field>⟧ ⟦<Pair<F, F> as Field>⟧ };
 
     fn places(&self) -> usize {
         match self {

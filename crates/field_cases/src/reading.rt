@@ -1,14 +1,14 @@
 // The words of a question that no other program has, read.
 ghost use Rattle.std.specs.Prelude.{◌≡◌, IfOk, IfErr};
-ghost use Rattle.spelling.specs.Misspellings.{Reads};
-ghost use Rattle.spelling.specs.declared.misspelt.Misspelt.TheVariants.{Bytes, Missing};
+ghost use Rattle.notation.specs.Errors.{Reads};
+ghost use Rattle.notation.specs.declared.error.NotationError.TheVariants.{Bytes, Missing};
 ghost use Rattle.field_cases.specs.Questions.{SpellsRow, first_word, behind_first, IsOneWord};
 
 use anyhow::bail;
 use record::{MEMORY_LENGTH, Tag};
-use spelling::hexadecimal::{read_array, read_bytes};
-use spelling::misspelt::Misspelt;
-use spelling::words::{no_word, read_locks, read_parts, word};
+use notation::hexadecimal::{read_array, read_bytes};
+use notation::error::NotationError;
+use notation::words::{no_word, read_locks, read_parts, word};
 use std::alloc::Global;
 
 // The first bytes of a memory, whose others are 00.
@@ -38,15 +38,15 @@ pub(crate) fn read_tag(heap: Global, text: &str) -> anyhow::Result<Tag> {
 }
 
 // The first word of several, and what stands behind the space after it.
-pub(crate) fn split_word(text: &str) -> Result<(&str, &str), Misspelt>
+pub(crate) fn split_word(text: &str) -> Result<(&str, &str), NotationError>
     ensures ok { IfOk result (λ p. (p.0.now ≡ first_word text.now) × (p.1.now ≡ behind_first text.now)) }
     ensures err { IfErr result (λ e. (e ≡ Missing) × IsOneWord text.now) }
 {
-    text.split_once(' ').ok_or(Misspelt::Missing)
+    text.split_once(' ').ok_or(NotationError::Missing)
 }
 
 // A row of coins, by its sixteen digits.
-pub(crate) fn read_row(text: &str) -> Result<u64, Misspelt>
+pub(crate) fn read_row(text: &str) -> Result<u64, NotationError>
     ensures row { Reads SpellsRow Bytes text.now result }
 {
     Ok(u64::from_be_bytes(read_array::<8>(text)?))

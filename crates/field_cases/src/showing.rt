@@ -1,7 +1,7 @@
 // Answers, as they are written.
 ghost use Rattle.std.specs.Prelude.{◌≡◌, ◌≢◌, ℕ, List, [], ◌∷◌, ◌++◌, map, fold, replicate};
 ghost use Rattle.std.specs.Int.{from_bool};
-ghost use Rattle.field_cases.specs.Fingerprints.{blank, byte_taken, fingerprint, tag_taken, tags_fingerprint};
+ghost use Rattle.field_cases.specs.Fingerprints.{blank, byte_mixed, fingerprint, tag_mixed, tags_fingerprint};
 
 use field::lending::Lending;
 use record::{MEMORY_LENGTH, Tag};
@@ -50,9 +50,9 @@ impl Fingerprint {
         }
     }
 
-    #[tactic(auto, unfolding(crate::specs::Fingerprints::byte_taken))]
+    #[tactic(auto, unfolding(crate::specs::Fingerprints::byte_mixed))]
     pub(crate) fn with(self, byte: u8) -> Fingerprint
-        ensures { result ≡ byte_taken self byte }
+        ensures { result ≡ byte_mixed self byte }
     {
         Fingerprint {
             value: (self.value ^ u64::from(byte)).wrapping_mul(0x100_0000_01b3),
@@ -60,13 +60,13 @@ impl Fingerprint {
     }
 
     pub(crate) fn with_bytes(self, bytes: &[u8]) -> Fingerprint
-        ensures { result ≡ fold byte_taken self bytes.now }
+        ensures { result ≡ fold byte_mixed self bytes.now }
     {
         bytes.iter().fold(self, |value, byte| value.with(*byte))
     }
 
     fn with_locks(self, locks: &[bool; MEMORY_LENGTH]) -> Fingerprint
-        ensures { result ≡ fold byte_taken self (map from_bool locks.now) }
+        ensures { result ≡ fold byte_mixed self (map from_bool locks.now) }
     {
         locks
             .iter()
@@ -75,7 +75,7 @@ impl Fingerprint {
 
     // Every part of a record.
     fn with_tag(self, tag: &Tag) -> Fingerprint
-        ensures { result ≡ tag_taken self tag.now }
+        ensures { result ≡ tag_mixed self tag.now }
     {
         self.with_bytes(&tag.memory)
             .with_locks(&tag.locks)

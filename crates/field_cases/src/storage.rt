@@ -1,4 +1,4 @@
-// What the lists of a play's sweeps are kept in, and the sweeps.
+// What the lists of a case's sweeps are kept in, and the sweeps.
 use crate::reading::read_row;
 use crate::showing::{Fingerprint, of_tags};
 use anyhow::Context;
@@ -6,21 +6,21 @@ use field::hearing::Hearing;
 use field::lending::Lending;
 use protocol::command::Command;
 use record::Serial;
-use rows::list::Rows;
+use slice_vec::vec::SliceVec;
 use slot::ending::Report;
 use slot::lists::Lists;
-use slot::row::SlotRow;
-use spelling::words::word;
+use slot::listed::ListedSlot;
+use notation::words::word;
 use std::alloc::Global;
 use std::str;
 use sweep::sweep;
 
-// How many rows there are, and what they hold at first.
+// How many entries there are, and what they hold at first.
 const SLOTS: usize = 400;
 
 const SERIALS: usize = 80;
 
-const UNUSED: SlotRow = SlotRow {
+const UNUSED: ListedSlot = ListedSlot {
     command: Command::Repeat,
     hearing: Hearing::Clash,
     waiting: 0xa5,
@@ -31,23 +31,23 @@ const PAGE: usize = 16384;
 
 #[derive(Drop)]
 pub struct Storage {
-    slots: [SlotRow; SLOTS],
+    slots: [ListedSlot; SLOTS],
     serials: [Serial; SERIALS],
 }
 
 // How a field is to be swept, by the words BUDGET SLOTS SERIALS ROW...
 #[derive(Drop)]
-struct Order {
+struct SweepQuestion {
     budget: u16,
     slots: usize,
     serials: usize,
     coins: Vec<u64>,
 }
 
-impl Order {
-    fn read(heap: Global, text: &str) -> anyhow::Result<Order> {
+impl SweepQuestion {
+    fn read(heap: Global, text: &str) -> anyhow::Result<SweepQuestion> {
         let mut words = text.split_whitespace();
-        Ok(Order {
+        Ok(SweepQuestion {
             budget: word(words.next())?.parse::<u16>()?,
             slots: word(words.next())?.parse::<usize>()?,
             serials: word(words.next())?.parse::<usize>()?,
@@ -71,12 +71,12 @@ impl Storage {
         field: &mut F,
         text: &str,
     ) -> anyhow::Result<()> {
-        let order = Order::read(rt.alloc(), text)?;
+        let order = SweepQuestion::read(rt.alloc(), text)?;
         let slots = self.slots.get_mut(..order.slots);
         let serials = self.serials.get_mut(..order.serials);
         let mut lists = Lists {
-            slots: Rows::new(slots.context("too many slots")?),
-            serials: Rows::new(serials.context("too many serial numbers")?),
+            slots: SliceVec::new(slots.context("too many slots")?),
+            serials: SliceVec::new(serials.context("too many serial numbers")?),
         };
         let swept = sweep(field, order.coins.as_slice(), order.budget, &mut lists);
         match swept {
@@ -95,7 +95,7 @@ impl Storage {
         Ok(())
     }
 
-    // Of all rows, those behind the lists too.
+    // Of all entries, those behind the lists too.
     fn of_slots(&self) -> Fingerprint {
         self.slots.iter().fold(Fingerprint::new(), |value, row| {
             value

@@ -2,10 +2,10 @@
 use anyhow::Context;
 use bench::bench::Bench;
 use field::field::Field;
-use layers::pair::Pair;
-use layers::spoiler::Spoiler;
+use composite_fields::pair::Pair;
+use composite_fields::spoiler::Spoiler;
 use record::Tag;
-use spelling::sample::numbered_tag;
+use notation::sample::numbered_tag;
 use std::array;
 
 // The tags of each field: numbers 1 to 4 at places 0 to 3.

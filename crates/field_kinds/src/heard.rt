@@ -2,7 +2,7 @@
 use field::field::{Field, ROOM};
 use field::hearing::Hearing;
 use protocol::refusal::Refusal;
-use spelling::hexadecimal::Hex;
+use notation::hexadecimal::Hex;
 use std::fmt;
 
 // How long each lone reply is here: eight bytes and a check value.

@@ -1,11 +1,11 @@
 // Sends the same few frames to a bench, a pair and a spoiler over four tags each, and prints what each hears.
-use crate::act::ACTS;
+use crate::transmissions::TRANSMISSIONS;
 use crate::building::{bench_over, crowd, pair_of, spoiler_of};
 use crate::heard::hear;
 use bench::single::Single;
-use compare::agreeing::agree;
+use two_fields::agreement::agree;
 use field::field::Field;
-use spelling::sent::framed;
+use notation::encoding::make_frame;
 
 // Sends a frame to a field, and prints what it hears.
 fn tell<F: Field>(
@@ -21,14 +21,14 @@ fn tell<F: Field>(
 }
 
 // Sends the frames to each of three fields. They are of any kinds here, which makes the proof short.
-fn play<B: Field, P: Field, S: Field>(
+fn send_all<B: Field, P: Field, S: Field>(
     rt: &HostRuntime,
     bench: &mut B,
     pair: &mut P,
     spoiler: &mut S,
 ) -> anyhow::Result<()> {
-    for (command, parameters, row) in ACTS {
-        let frame = framed(rt.alloc(), command.code(), parameters)?;
+    for (command, parameters, row) in TRANSMISSIONS {
+        let frame = make_frame(rt.alloc(), command.code(), parameters)?;
         println!(rt; "{command} with coins {row:04b}")?;
         tell(rt, "bench", bench, &frame, row)?;
         tell(rt, "pair", pair, &frame, row)?;
@@ -47,7 +47,7 @@ pub(crate) fn show(rt: &HostRuntime) -> anyhow::Result<()> {
     println!(rt;
         "four tags: on a bench, in a pair of one and three, and where each second lone reply is spoiled"
     )?;
-    play(rt, &mut bench, &mut pair, &mut spoiler)?;
+    send_all(rt, &mut bench, &mut pair, &mut spoiler)?;
     let agree = agree(&bench, &pair) && agree(&bench, &spoiler);
     println!(rt; "tags agree: {}", if agree { "yes" } else { "no" })?;
     Ok(())

@@ -1,7 +1,7 @@
-// Fields of different kinds over four tags: what each hears of the same frames, and one list of calls that two of them meet.
+// Fields of different kinds over four tags: what each hears of the same frames, and one list of calls that two of them are given.
 #![tactic(auto)]
 
-mod act;
+mod transmissions;
 mod building;
 mod heard;
 mod hearings;

@@ -1,6 +1,6 @@
 // What calls have come to, on standard output.
 use anyhow::Context;
-use history::desk::{Answer, Desk};
+use history::workspace::{Answer, Workspace};
 use slot::ending::Report;
 use slot::lists::Lists;
 use std::str;
@@ -21,19 +21,19 @@ fn show_sheet(rt: &HostRuntime, lists: &Lists<'_>, report: &Report) -> anyhow::R
 }
 
 // The sheet of a sweep, and a line of any other call.
-fn show(rt: &HostRuntime, desk: &Desk<'_>) -> anyhow::Result<()> {
-    match desk.answer.context("no answer")? {
+fn show(rt: &HostRuntime, workspace: &Workspace<'_>) -> anyhow::Result<()> {
+    match workspace.answer.context("no answer")? {
         Answer::Refused(refusal) => println!(rt; "refused: {refusal}")?,
         Answer::Heard(hearing) => println!(rt; "{hearing}")?,
         Answer::Passed => println!(rt; "passed")?,
-        Answer::Swept(report) => show_sheet(rt, &desk.lists, &report)?,
+        Answer::Swept(report) => show_sheet(rt, &workspace.lists, &report)?,
     }
     Ok(())
 }
 
-pub(crate) fn show_all(rt: &HostRuntime, desks: &[Desk<'_>]) -> anyhow::Result<()> {
-    for desk in desks {
-        show(rt, desk)?;
+pub(crate) fn show_all(rt: &HostRuntime, workspaces: &[Workspace<'_>]) -> anyhow::Result<()> {
+    for workspace in workspaces {
+        show(rt, workspace)?;
     }
     Ok(())
 }

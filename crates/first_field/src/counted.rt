@@ -1,6 +1,6 @@
 // A kind of field that counts what is sent to it.
 ghost use Rattle.std.specs.Prelude.{◌≡◌};
-ghost use Rattle.field.specs.Sends.{Answered};
+ghost use Rattle.field.specs.Sends.{IfHeard};
 ghost use Rattle.first_field.specs.Counting.{field_of, sends_of, HandsOn};
 
 use field::field::Field;
@@ -31,7 +31,7 @@ impl<F: Field> Counted<F> {
     }
 
     // Gives the field back.
-    pub fn into_field(self) -> F
+    pub fn into_inner(self) -> F
         ensures { result ≡ field_of self }
     {
         let Counted { field, .. } = self;
@@ -48,9 +48,9 @@ impl<F: Field> Field for Counted<F> {
 
     ghost faithful = { λ c. F.faithful (field_of c) };
 
-    ghost hears = { λ c bytes row answer d. Answered answer (HandsOn F.Field bytes row c d) c d };
+    ghost hears = { λ c bytes row answer d. IfHeard answer (HandsOn F.Field bytes row c d) c d };
 
-    ghost waits = { λ c us d. F.waits (field_of c) us (field_of d) × (sends_of d ≡ sends_of c) };
+    ghost passes = { λ c us d. F.passes (field_of c) us (field_of d) × (sends_of d ≡ sends_of c) };
 
     fn places(&self) -> usize {
         self.field.places()

@@ -10,7 +10,7 @@ use crate::sweeping::sweep_and_print;
 use anyhow::Context;
 use bench::bench::Bench;
 use field::field::Field;
-use spelling::sample::{numbered_serial, numbered_tag};
+use notation::sample::{numbered_serial, numbered_tag};
 
 // After a gap of so many microseconds each tag is READY again.
 const GAP: u32 = 250;
@@ -28,7 +28,7 @@ fn run(rt: &HostRuntime) -> anyhow::Result<()> {
     sweep_and_print(rt, &mut counted)?;
     println!(rt; "sends: {}", counted.sends())?;
 
-    let bench = counted.into_field();
+    let bench = counted.into_inner();
     println!(rt; "place of number 2: {:?}", bench.find(&numbered_serial(2)))?;
     Ok(())
 }

@@ -1,9 +1,9 @@
 // A whole sweep of a field of any kind, and its sheet on standard output.
 use field::field::Field;
-use rows::list::Rows;
+use slice_vec::vec::SliceVec;
 use slot::ending::Report;
 use slot::lists::Lists;
-use slot::row::BLANK;
+use slot::listed::BLANK;
 use std::io::Write;
 use sweep::sweep;
 
@@ -28,8 +28,8 @@ pub(crate) fn sweep_and_print<F: Field>(rt: &HostRuntime, field: &mut F) -> anyh
     let mut slots = [BLANK; 64];
     let mut serials = [[0; 8]; 64];
     let mut lists = Lists {
-        slots: Rows::new(&mut slots),
-        serials: Rows::new(&mut serials),
+        slots: SliceVec::new(&mut slots),
+        serials: SliceVec::new(&mut serials),
     };
     let report = sweep(field, &COINS, BUDGET, &mut lists)?;
     print_sheet(rt, &lists, &report)

@@ -3,18 +3,18 @@ use Rattle.std.proofs.Common.{◌≡◌, ℕ, ◌+◌, ◌<◌, ◌≤◌, List,
 use Rattle.std.proofs.lemmas.Bool.{lt-ltb, le-ltb, eq-eqb, ne_eqb, cond-true, cond-false}
 use Rattle.crc.specs.Check.{sealed}
 use Rattle.protocol.specs.declared.command.Command.{Command}
-use Rattle.protocol.specs.Commands.{length_of, named}
-use Rattle.frame.specs.Makings.{unmade, made, making, for_command}
+use Rattle.protocol.specs.Commands.{length_of, command_with_code}
+use Rattle.frame.specs.Makings.{unmade, made, making, making_by_command}
 
 module _ (code : ℕ) (parameters : List ℕ) (room : ℕ) where
-  for_command_lem : (o : Option Command) → named code ≡ o → making code parameters room ≡ for_command o code parameters room
+  for_command_lem : (o : Option Command) → command_with_code code ≡ o → making code parameters room ≡ making_by_command o code parameters room
   unfolding making
-  for_command_lem o e = ap (λ (p : Option Command). for_command p code parameters room) e
+  for_command_lem o e = ap (λ (p : Option Command). making_by_command p code parameters room) e
 
-  pub no_code : named code ≡ None → making code parameters room ≡ unmade 3
+  pub no_code : command_with_code code ≡ None → making code parameters room ≡ unmade 3
   no_code e = for_command_lem None e
 
-  module _ (c : Command) (e : named code ≡ Some c) where
+  module _ (c : Command) (e : command_with_code code ≡ Some c) where
     pub bad-length : (length parameters + 3 ≡ length_of c → ⊥) → making code parameters room ≡ unmade 4
     bad-length l = for_command_lem (Some c) e ∙ cond-false _ _ _ (ne_eqb (length parameters + 3) (length_of c) l)
 

@@ -3,10 +3,10 @@ use Rattle.std.specs.Prelude.{◌≡◌, ℕ, ◌+◌, if◌then◌else◌, ◌�
 use Rattle.std.specs.Prelude.{List, length, drop, Some, None, Option, nat_lt}
 use Rattle.crc.specs.Check.{sealed}
 use Rattle.protocol.specs.declared.command.Command.{Command}
-use Rattle.protocol.specs.Commands.{length_of, named}
+use Rattle.protocol.specs.Commands.{length_of, command_with_code}
 use Rattle.frame.specs.Openings.{opened, opening}
 use Rattle.frame.specs.Parts.{Part, bytes_in}
-use Rattle.protocol.specs.Refusals.{Answer, told, denied}
+use Rattle.protocol.specs.Refusals.{WriteResult, wrote, not_written}
 
 pub data Making : Type 0 where
   -- by the refusal's number
@@ -14,9 +14,9 @@ pub data Making : Type 0 where
   -- the whole frame
   made : List ℕ → Making
 
-abbrev pub for_command : Option Command → ℕ → List ℕ → ℕ → Making
-for_command None code parameters room = unmade 3
-for_command (Some c) code parameters room =
+abbrev pub making_by_command : Option Command → ℕ → List ℕ → ℕ → Making
+making_by_command None code parameters room = unmade 3
+making_by_command (Some c) code parameters room =
     if length parameters + 3 == length_of c then
     (if nat_lt room (length_of c) then unmade 5 else made (sealed (code ∷ parameters))) else unmade 4
 
@@ -26,17 +26,17 @@ longest_frame = 17
 
 -- Making, in a buffer with some room: the refusals in the order in which they are tried, and else the frame.
 unfoldable pub making : ℕ → List ℕ → ℕ → Making
-making code parameters room = for_command (named code) code parameters room
+making code parameters room = making_by_command (command_with_code code) code parameters room
 
 -- The caller is told the frame's length.
-abbrev pub answering : Making → Answer
-answering (unmade n) = denied n
-answering (made frame) = told (length frame)
+abbrev pub result_of : Making → WriteResult
+result_of (unmade n) = not_written n
+result_of (made frame) = wrote (length frame)
 
 -- The frame stands at the buffer's front, and the bytes behind it are as they were. A refusal changes nothing.
-abbrev pub leaving : Making → List ℕ → List ℕ
-leaving (unmade n) buffer = buffer
-leaving (made frame) buffer = frame ++ drop (length frame) buffer
+abbrev pub buffer_after : Making → List ℕ → List ℕ
+buffer_after (unmade n) buffer = buffer
+buffer_after (made frame) buffer = frame ++ drop (length frame) buffer
 
 -- Writing some bytes into a buffer with some room: the bytes, or the refusal of a buffer too short.
 abbrev pub writing : List ℕ → ℕ → Making

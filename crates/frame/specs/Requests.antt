@@ -25,24 +25,24 @@ abbrev pub target_parts : Target → List Part
 target_parts t = bytes_part Serial t.serial ∷ byte_part Address t.address ∷ []
 
 -- Its command and its parameters.
-abbrev pub said_by : Request → Command × List Part
-said_by (Select c) = (command.Select, comparison_parts c)
-said_by (UnselectNe c) = (command.UnselectNe, comparison_parts c)
-said_by (UnselectIdFlag b) = (command.UnselectIdFlag, bytes_part Ignored b ∷ [])
-said_by (UnselectNoidFlag b) = (command.UnselectNoidFlag, bytes_part Ignored b ∷ [])
-said_by Query = (command.Query, [])
-said_by Scroll = (command.Scroll, [])
-said_by Repeat = (command.Repeat, [])
-said_by Reset = (command.Reset, [])
-said_by (Read t) = (command.Read, target_parts t)
-said_by (Verify t) = (command.Verify, target_parts t)
-said_by (Lock t) = (command.Lock, target_parts t)
-said_by (Qlock t) = (command.Qlock, target_parts t)
-said_by (ReadFlexible t l) = (command.ReadFlexible, target_parts t ++ byte_part Length l ∷ [])
-said_by (Write t m d) = (command.Write, target_parts t ++ byte_part Mask m ∷ bytes_part Data d ∷ [])
+abbrev pub command_and_parts : Request → Command × List Part
+command_and_parts (Select c) = (command.Select, comparison_parts c)
+command_and_parts (UnselectNe c) = (command.UnselectNe, comparison_parts c)
+command_and_parts (UnselectIdFlag b) = (command.UnselectIdFlag, bytes_part Ignored b ∷ [])
+command_and_parts (UnselectNoidFlag b) = (command.UnselectNoidFlag, bytes_part Ignored b ∷ [])
+command_and_parts Query = (command.Query, [])
+command_and_parts Scroll = (command.Scroll, [])
+command_and_parts Repeat = (command.Repeat, [])
+command_and_parts Reset = (command.Reset, [])
+command_and_parts (Read t) = (command.Read, target_parts t)
+command_and_parts (Verify t) = (command.Verify, target_parts t)
+command_and_parts (Lock t) = (command.Lock, target_parts t)
+command_and_parts (Qlock t) = (command.Qlock, target_parts t)
+command_and_parts (ReadFlexible t l) = (command.ReadFlexible, target_parts t ++ byte_part Length l ∷ [])
+command_and_parts (Write t m d) = (command.Write, target_parts t ++ byte_part Mask m ∷ bytes_part Data d ∷ [])
 
 abbrev pub command_of : Request → Command
-command_of r = (said_by r).0
+command_of r = (command_and_parts r).0
 
 abbrev pub parts_of : Request → List Part
-parts_of r = (said_by r).1
+parts_of r = (command_and_parts r).1

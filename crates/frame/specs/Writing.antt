@@ -5,8 +5,8 @@ use Rattle.crc.specs.Check.{byte_taken}
 use Rattle.frame.specs.declared.writer.Writer.{Writer}
 
 -- A buffer with some bytes laid over it from a place on.
-unfoldable pub laid : List ℕ → ℕ → List ℕ → List ℕ
-laid buffer place bytes = take place buffer ++ (bytes ++ drop (place + length bytes) buffer)
+unfoldable pub overlaid : List ℕ → ℕ → List ℕ → List ℕ
+overlaid buffer place bytes = take place buffer ++ (bytes ++ drop (place + length bytes) buffer)
 
 -- How many bytes a writer has filled.
 abbrev pub filled_of : Writer → ℕ
@@ -29,5 +29,5 @@ pub record Put (bytes : List ℕ) (before after : Writer) (done : Bool) : Type 0
   pub fits : done ≡ nat_le (before.filled + length bytes) (length before.buffer.now)
   pub filled : after.filled ≡ (if done then before.filled + length bytes else before.filled)
   pub register : after.register ≡ (if done then fold byte_taken before.register bytes else before.register)
-  pub buffer : after.buffer.now ≡ (if done then laid before.buffer.now before.filled bytes else before.buffer.now)
+  pub buffer : after.buffer.now ≡ (if done then overlaid before.buffer.now before.filled bytes else before.buffer.now)
   pub lender : after.buffer.ghost_name ≡ before.buffer.ghost_name

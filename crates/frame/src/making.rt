@@ -1,9 +1,9 @@
 // Making a frame at the front of a lent buffer.
 ghost use Rattle.std.specs.Prelude.{◌≡◌, ℕ, ◌+◌, length, take, IfOk, IfErr};
 ghost use Rattle.frame.specs.Cases.{BareFrames};
-ghost use Rattle.frame.specs.Makings.{making, unmade, answering, leaving, OpensAs};
+ghost use Rattle.frame.specs.Makings.{making, unmade, result_of, buffer_after, OpensAs};
 ghost use Rattle.protocol.specs.Commands.{code_of, length_of};
-ghost use Rattle.protocol.specs.Refusals.{answer_of, number_of};
+ghost use Rattle.protocol.specs.Refusals.{write_result, number_of};
 
 use crate::writer::Writer;
 use protocol::command::{Command, Entry};
@@ -16,8 +16,8 @@ pub const LONGEST_FRAME: usize = 17;
 // Callers give the two as they have them, which may be no frame's; a `Draft` is made of those that are.
 #[tactic(auto, using(crate::proofs::Limits::bare_frames))]
 pub fn make(code: u8, parameters: &[u8], buffer: &mut [u8]) -> Result<usize, Refusal>
-    ensures answer { answer_of result ≡ answering (making code parameters.now (length buffer.old)) }
-    ensures buffer { buffer.new ≡ leaving (making code parameters.now (length buffer.old)) buffer.old }
+    ensures answer { write_result result ≡ result_of (making code parameters.now (length buffer.old)) }
+    ensures buffer { buffer.new ≡ buffer_after (making code parameters.now (length buffer.old)) buffer.old }
     ensures opens { IfOk result (λ n. OpensAs code parameters.now (take n buffer.new)) }
     ensures bare { BareFrames }
 {
@@ -49,10 +49,10 @@ impl<'a> Draft<'a> {
     }
 
     fn write(&self, buffer: &mut [u8]) -> Result<usize, Refusal>
-        ensures answer { answer_of result
-            ≡ answering (making (code_of self.now.command) self.now.parameters.now (length buffer.old)) }
+        ensures answer { write_result result
+            ≡ result_of (making (code_of self.now.command) self.now.parameters.now (length buffer.old)) }
         ensures buffer { buffer.new
-            ≡ leaving (making (code_of self.now.command) self.now.parameters.now (length buffer.old)) buffer.old }
+            ≡ buffer_after (making (code_of self.now.command) self.now.parameters.now (length buffer.old)) buffer.old }
         ensures opens { IfOk result (λ n.
             OpensAs (code_of self.now.command) self.now.parameters.now (take n buffer.new)) }
     {

@@ -3,7 +3,7 @@ ghost use Rattle.std.specs.Prelude.{◌≡◌, ◌≤◌, length, IsTrue, IfOk, 
 ghost use Rattle.frame.specs.Cases.{DamagedFrames};
 ghost use Rattle.frame.specs.Makings.{making, made, longest_frame};
 ghost use Rattle.frame.specs.Openings.{refused, opening, is_sealed, parameters_of};
-ghost use Rattle.frame.specs.Openings.{seen, bytes_seen, code_seen, request_seen};
+ghost use Rattle.frame.specs.Openings.{opening_of, bytes_of_frame, code_of_frame, request_of_frame};
 ghost use Rattle.frame.specs.Parts.{bytes_in, Within};
 ghost use Rattle.frame.specs.Requests.{parts_of};
 ghost use Rattle.protocol.specs.Refusals.{number_of};
@@ -25,11 +25,11 @@ pub struct Frame<'a> {
 // making gives for that code and those parameters.
 #[tactic(auto, using(crate::proofs::Limits::damaged_frames))]
 pub fn open(bytes: &[u8]) -> Result<Frame<'_>, Refusal>
-    ensures seen { seen result ≡ opening bytes.now }
-    ensures bytes { IfOk result (λ f. bytes_seen f ≡ bytes.now) }
-    ensures within { IfOk result (λ f. Within bytes.now (parts_of (request_seen f))) }
+    ensures seen { opening_of result ≡ opening bytes.now }
+    ensures bytes { IfOk result (λ f. bytes_of_frame f ≡ bytes.now) }
+    ensures within { IfOk result (λ f. Within bytes.now (parts_of (request_of_frame f))) }
     ensures remade { IfOk result (λ f.
-        making (code_seen f) (bytes_in (parts_of (request_seen f))) (length bytes.now) ≡ made bytes.now) }
+        making (code_of_frame f) (bytes_in (parts_of (request_of_frame f))) (length bytes.now) ≡ made bytes.now) }
     ensures longest { OnOk result (length bytes.now ≤ longest_frame) }
     ensures damaged { DamagedFrames }
 {
@@ -39,21 +39,21 @@ pub fn open(bytes: &[u8]) -> Result<Frame<'_>, Refusal>
 impl<'a> Frame<'a> {
     // The bytes that it was opened from.
     pub fn bytes(&self) -> &'a [u8]
-        ensures { result.now ≡ bytes_seen self.now }
+        ensures { result.now ≡ bytes_of_frame self.now }
     {
         self.bytes
     }
 
     // The code, its first byte.
     pub fn code(&self) -> u8
-        ensures { result ≡ code_seen self.now }
+        ensures { result ≡ code_of_frame self.now }
     {
         self.code
     }
 
     // The command with its parameters.
     pub fn request(&self) -> Request<'a>
-        ensures { result ≡ request_seen self.now }
+        ensures { result ≡ request_of_frame self.now }
     {
         self.request
     }
@@ -94,10 +94,10 @@ impl<'a> Sealed<'a> {
 
     // The frame, by the table: or no command has the code, or none of that length.
     fn frame(&self) -> Result<Frame<'a>, Refusal>
-        ensures seen { seen result ≡ opening self.now.bytes.now }
-        ensures bytes { IfOk result (λ f. bytes_seen f ≡ self.now.bytes.now) }
-        ensures within { IfOk result (λ f. Within self.now.bytes.now (parts_of (request_seen f))) }
-        ensures remade { IfOk result (λ f. making (code_seen f) (bytes_in (parts_of (request_seen f)))
+        ensures seen { opening_of result ≡ opening self.now.bytes.now }
+        ensures bytes { IfOk result (λ f. bytes_of_frame f ≡ self.now.bytes.now) }
+        ensures within { IfOk result (λ f. Within self.now.bytes.now (parts_of (request_of_frame f))) }
+        ensures remade { IfOk result (λ f. making (code_of_frame f) (bytes_in (parts_of (request_of_frame f)))
             (length self.now.bytes.now) ≡ made self.now.bytes.now) }
         ensures longest { OnOk result (length self.now.bytes.now ≤ longest_frame) }
     {

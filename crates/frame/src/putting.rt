@@ -1,8 +1,8 @@
 // Putting bytes into a writer, one behind another.
 ghost use Rattle.std.specs.Prelude.{◌≡◌, ◌+◌, ◌-◌, ◌≤◌, length, is_ok, IfErr};
-ghost use Rattle.crc.specs.Check.{sent};
+ghost use Rattle.crc.specs.Check.{high_byte_first};
 ghost use Rattle.frame.specs.Cases.{ShortReplies};
-ghost use Rattle.frame.specs.Writing.{register_of, Put, laid};
+ghost use Rattle.frame.specs.Writing.{register_of, Put, overlaid};
 ghost use Rattle.protocol.specs.Refusals.{number_of};
 
 use crate::writer::Writer;
@@ -27,7 +27,7 @@ impl<'a> Writer<'a> {
     // Puts the check value of all that was put behind it, or nothing where it does not fit.
     #[tactic(auto, using(crate::proofs::Limits::short_replies))]
     pub fn seal(&mut self) -> Result<(), Refusal>
-        ensures put { Put (sent (0xffff - register_of self.old)) self.old self.new (is_ok result) }
+        ensures put { Put (high_byte_first (0xffff - register_of self.old)) self.old self.new (is_ok result) }
         ensures refusal { IfErr result (λ e. number_of e ≡ 5) }
         ensures replies { ShortReplies }
     {
@@ -39,7 +39,7 @@ impl<'a> Writer<'a> {
 // Lays bytes over a buffer that is long enough, from a place on.
 fn overlay(buffer: &mut [u8], start: usize, bytes: &[u8])
     requires { start + length bytes.now ≤ length buffer.old }
-    ensures { buffer.new ≡ laid buffer.old start bytes.now }
+    ensures { buffer.new ≡ overlaid buffer.old start bytes.now }
 {
     buffer[start..start + bytes.len()].copy_from_slice(bytes);
 }

@@ -7,9 +7,9 @@ ghost use Rattle.protocol.specs.Commands.{layout, sizes};
 use frame::making::LONGEST_FRAME;
 use frame::opening::{Frame, open};
 use protocol::command::{COMMANDS, Command, Entry, OWN, PARAMETERS};
-use spelling::hexadecimal::Hex;
-use spelling::sample::to_tag;
-use spelling::sent::framed;
+use notation::hexadecimal::Hex;
+use notation::sample::to_tag;
+use notation::encoding::make_frame;
 use std::alloc::{AllocError, Global};
 use std::fmt;
 use std::process::ExitCode;
@@ -22,11 +22,11 @@ const BARE: usize = 3;
 
 // A line of the table.
 #[derive(Drop)]
-struct Row<'a> {
+struct TableLine<'a> {
     frame: Frame<'a>,
 }
 
-impl fmt::Display for Row<'_> {
+impl fmt::Display for TableLine<'_> {
     fn fmt<W: fmt::Write>(&self, f: &mut fmt::Formatter<W>) -> fmt::Result {
         let code = self.frame.code();
         let command = self.frame.request().command();
@@ -61,11 +61,11 @@ fn sample(heap: Global, command: Command) -> Result<Vec<u8>, AllocError>
     }
 }
 
-fn print_row(rt: &HostRuntime, entry: Entry) -> anyhow::Result<()> {
+fn print_line(rt: &HostRuntime, entry: Entry) -> anyhow::Result<()> {
     let parameters = sample(rt.alloc(), entry.command)?;
-    let bytes = framed(rt.alloc(), entry.code, parameters.as_slice())?;
+    let bytes = make_frame(rt.alloc(), entry.code, parameters.as_slice())?;
     let frame = open(bytes.as_slice())?;
-    println!(rt; "{}", Row { frame })?;
+    println!(rt; "{}", TableLine { frame })?;
     Ok(())
 }
 
@@ -74,7 +74,7 @@ fn run(rt: &HostRuntime) -> anyhow::Result<()> {
         "code command        length  bytes                                               parameters and their offsets"
     )?;
     for entry in COMMANDS {
-        print_row(rt, entry)?;
+        print_line(rt, entry)?;
     }
     Ok(())
 }

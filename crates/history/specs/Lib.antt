@@ -1,3 +1,3 @@
 pub mod Histories
-pub mod Meetings
 pub mod Runs
+pub mod Steps

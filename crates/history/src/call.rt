@@ -10,6 +10,6 @@ pub enum Call<'a> {
     Gap {
         microseconds: u32,
     },
-    // A sweep, with the coins, the budget and the lists of the desk.
+    // A sweep, with the coins, the budget and the lists of the workspace.
     Sweep,
 }

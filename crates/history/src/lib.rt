@@ -2,5 +2,5 @@
 #![tactic(auto)]
 
 pub mod call;
-pub mod desk;
-pub mod playing;
+pub mod workspace;
+pub mod running;

@@ -3,10 +3,10 @@
 
 use anyhow::Context;
 use bench::bench::Bench;
-use rows::list::Rows;
+use slice_vec::vec::SliceVec;
 use slot::lists::Lists;
-use slot::row::BLANK;
-use spelling::sample::numbered_tag;
+use slot::listed::BLANK;
+use notation::sample::numbered_tag;
 use std::io::Write;
 use std::process::ExitCode;
 use sweep::sweep;
@@ -33,8 +33,8 @@ fn run(rt: &HostRuntime) -> anyhow::Result<()> {
     let mut slots = [BLANK; 64];
     let mut serials = [[0; 8]; 64];
     let mut lists = Lists {
-        slots: Rows::new(&mut slots),
-        serials: Rows::new(&mut serials),
+        slots: SliceVec::new(&mut slots),
+        serials: SliceVec::new(&mut serials),
     };
     let report = sweep(&mut bench, &COINS, BUDGET, &mut lists)?;
     let mut page = [0; PAGE];

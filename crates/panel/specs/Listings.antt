@@ -2,7 +2,7 @@
 use Rattle.std.specs.Prelude.{◌≡◌, ℕ, List, [], ◌∷◌, ◌++◌, replicate}
 use Rattle.std.specs.List.{AllByRecursion}
 use Rattle.frame.specs.Openings.{opening}
-use Rattle.panel.specs.Shown.{answering, leaving}
+use Rattle.panel.specs.Shown.{status_of, shown_after}
 
 -- A frame, how many bytes the panel has, the answer, and those bytes after it.
 abbrev pub shown : List ℕ → ℕ → ℕ → List ℕ → List ℕ × ℕ × ℕ × List ℕ
@@ -12,8 +12,8 @@ shown frame room answer after = (frame, room, answer, after)
 unfoldable pub ShownFrames : Type 0
 ShownFrames =
     AllByRecursion {X = List ℕ × ℕ × ℕ × List ℕ}
-    (λ (frame, room, answer, after). (answering (opening frame) room ≡ answer)
-    × (leaving (opening frame) (replicate room 0xa5) ≡ after))
+    (λ (frame, room, answer, after). (status_of (opening frame) room ≡ answer)
+    × (shown_after (opening frame) (replicate room 0xa5) ≡ after))
     (shown (0x00 ∷ replicate 10 0x5a ++ 0xc2 ∷ 0x9d ∷ []) 15 0
     (0x00 ∷ 0x00 ∷ 0x00 ∷ 0x01 ∷ 0x01 ∷ 0x02 ∷ 0x01 ∷ 0x03 ∷ 0x08 ∷ replicate 6 0x00)
     ∷ shown (0x05 ∷ replicate 10 0x5a ++ 0x4b ∷ 0x93 ∷ []) 15 0

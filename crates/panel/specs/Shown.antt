@@ -36,32 +36,32 @@ abbrev pub number_in : Making → ℕ
 number_in (unmade n) = n
 number_in (made row) = 0
 
-abbrev pub answering : Opening → ℕ → ℕ
-answering o room = number_in (showing o room)
+abbrev pub status_of : Opening → ℕ → ℕ
+status_of o room = number_in (showing o room)
 
 -- What is shown stands at the front, and the bytes behind it are as they were, as where a frame is made. A refusal
 -- changes nothing.
-abbrev pub leaving : Opening → List ℕ → List ℕ
-leaving o before = makings.leaving (showing o (length before)) before
+abbrev pub shown_after : Opening → List ℕ → List ℕ
+shown_after o before = makings.leaving (showing o (length before)) before
 
 -- Offsets and lengths are bytes.
 abbrev pub Small : List Part → Type 0
 Small parts = AllByRecursion (λ p. p.offset + length p.bytes < 256) parts
 
--- Where a row has a parameter's offset. Its length comes next.
-abbrev pub place_of : Parameter → ℕ
-place_of Serial = 1
-place_of Address = 3
-place_of Mask = 5
-place_of Word = 7
-place_of Data = 9
-place_of Length = 11
-place_of Ignored = 13
+-- Where the shown bytes have a parameter's offset. Its length comes next.
+abbrev pub offset_place : Parameter → ℕ
+offset_place Serial = 1
+offset_place Address = 3
+offset_place Mask = 5
+offset_place Word = 7
+offset_place Data = 9
+offset_place Length = 11
+offset_place Ignored = 13
 
--- The bytes of a frame that a row shows for a parameter: as many as its length, from its offset on.
+-- The bytes of a frame that the shown bytes select for a parameter: as many as its length, from its offset on.
 abbrev pub selected_by : List ℕ → Parameter → List ℕ → List ℕ
-selected_by row p frame = take (slice_index row (place_of p + 1)) (drop (slice_index row (place_of p)) frame)
+selected_by row p frame = take (slice_index row (offset_place p + 1)) (drop (slice_index row (offset_place p)) frame)
 
--- A row selects just the bytes of each parameter in a frame, and none for a parameter that is not there.
+-- What is shown selects just the bytes of each parameter in a frame, and none for a parameter that is not there.
 abbrev pub Selects : List ℕ → List ℕ → Type 0
 Selects row frame = (p : Parameter) → selected_by row p frame ≡ bytes_of p (parts_in (opening frame))

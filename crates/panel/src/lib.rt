@@ -4,11 +4,11 @@
 ghost use Rattle.std.specs.Prelude.{◌≡◌, length, MatchResult, OnOk};
 ghost use Rattle.std.proofs.Props.{props};
 ghost use Rattle.crc.specs.Check.{check_value};
-ghost use Rattle.frame.specs.Openings.{opening, code_seen, request_seen};
+ghost use Rattle.frame.specs.Openings.{opening, code_of_frame, request_of_frame};
 ghost use Rattle.frame.specs.Parts.{span_of};
 ghost use Rattle.frame.specs.Requests.{parts_of};
 ghost use Rattle.protocol.specs.Refusals.{number_of};
-ghost use Rattle.panel.specs.Shown.{Small, Selects, offset_in, length_in, shown_of, answering, leaving};
+ghost use Rattle.panel.specs.Shown.{Small, Selects, offset_in, length_in, shown_of, status_of, shown_after};
 
 mod worked;
 
@@ -32,8 +32,8 @@ pub extern "C" fn nolbashi_check_value(message: &[u8]) -> u16
 // refusal, and then nothing is changed.
 #[unsafe(no_mangle)]
 pub extern "C" fn nolbashi_open(frame: &[u8], shown: &mut [u8]) -> u8
-    ensures answer { result ≡ answering (opening frame.now) (length shown.old) }
-    ensures shown { shown.new ≡ leaving (opening frame.now) shown.old }
+    ensures answer { result ≡ status_of (opening frame.now) (length shown.old) }
+    ensures shown { shown.new ≡ shown_after (opening frame.now) shown.old }
     ensures selects { result ≡ 0 → Selects shown.new frame.now }
 {
     // A number, and a frame beside a buffer, since that is what C has.
@@ -43,9 +43,9 @@ pub extern "C" fn nolbashi_open(frame: &[u8], shown: &mut [u8]) -> u8
 // Shows what a frame holds, or tells why not. Frame and buffer are two parameters as in C.
 fn show(frame: &[u8], shown: &mut [u8]) -> Result<(), Refusal>
     ensures answer { MatchResult result
-        (λ _. answering (opening frame.now) (length shown.old) ≡ 0)
-        (λ e. answering (opening frame.now) (length shown.old) ≡ number_of e) }
-    ensures shown { shown.new ≡ leaving (opening frame.now) shown.old }
+        (λ _. status_of (opening frame.now) (length shown.old) ≡ 0)
+        (λ e. status_of (opening frame.now) (length shown.old) ≡ number_of e) }
+    ensures shown { shown.new ≡ shown_after (opening frame.now) shown.old }
     ensures selects { OnOk result (Selects shown.new frame.now) }
 {
     let opened = Shown {
@@ -62,14 +62,14 @@ fn show(frame: &[u8], shown: &mut [u8]) -> Result<(), Refusal>
 #[derive(Clone, Copy)]
 struct Shown<'a> {
     frame: Frame<'a>,
-    ghost small: { Small (parts_of (request_seen frame)) } by { Prim.hlevel props },
+    ghost small: { Small (parts_of (request_of_frame frame)) } by { Prim.hlevel props },
 }
 
 impl Shown<'_> {
-    // The code, then each parameter's offset and length. They are written out, since so the row is proved with nothing
+    // The code, then each parameter's offset and length. They are written out, since so the list is proved with nothing
     // to say of a loop, and reads as the header does.
     fn row(&self) -> [u8; SHOWN]
-        ensures { result ≡ shown_of (code_seen self.now.frame) (parts_of (request_seen self.now.frame)) }
+        ensures { result ≡ shown_of (code_of_frame self.now.frame) (parts_of (request_of_frame self.now.frame)) }
     {
         let (serial, serial_length) = self.pair(Parameter::Serial);
         let (address, address_length) = self.pair(Parameter::Address);
@@ -99,8 +99,8 @@ impl Shown<'_> {
 
     // Offset and length of a parameter, and zeros where the frame has none, as the header has it.
     fn pair(&self, parameter: Parameter) -> (u8, u8)
-        ensures offset { result.0 ≡ offset_in (span_of parameter (parts_of (request_seen self.now.frame))) }
-        ensures length { result.1 ≡ length_in (span_of parameter (parts_of (request_seen self.now.frame))) }
+        ensures offset { result.0 ≡ offset_in (span_of parameter (parts_of (request_of_frame self.now.frame))) }
+        ensures length { result.1 ≡ length_in (span_of parameter (parts_of (request_of_frame self.now.frame))) }
     {
         match self.frame.request().span(parameter) {
             Some(span) => (span.offset as u8, span.length as u8),

@@ -6,16 +6,16 @@ use Rattle.protocol.specs.declared.command.Command.{Command}
 use Rattle.protocol.specs.declared.command.Command.TheVariants.{Select, UnselectNe, UnselectIdFlag, UnselectNoidFlag, Query, Scroll, Repeat, Reset, Read, Verify, Lock, Qlock, ReadFlexible, Write}
 use Rattle.protocol.specs.declared.command.Entry.{Entry}
 use Rattle.protocol.specs.declared.refusal.Refusal.TheVariants.{Code}
-use Rattle.protocol.specs.Entries.{Entered}
-use Rattle.protocol.specs.Commands.{code_of, length_of, commands, named, entry_of, first_named, first_entry}
+use Rattle.protocol.specs.Entries.{EntryOrRefusal}
+use Rattle.protocol.specs.Commands.{code_of, length_of, commands, command_with_code, entry_of, first_with_code, first_entry}
 
 -- A table that says of each command what is so is looked through as the commands are.
-pub told : (code : ℕ) (cs : List Command) → first_entry code (map entry_of cs) ≡ option_map entry_of (first_named code cs)
+pub told : (code : ℕ) (cs : List Command) → first_entry code (map entry_of cs) ≡ option_map entry_of (first_with_code code cs)
 told code [] = refl
 told code (c ∷ cs) = either (code_of c == code) (told code cs)
   where
-    either : (b : Bool) → first_entry code (map entry_of cs) ≡ option_map entry_of (first_named code cs)
-        → cond b (Some (entry_of c)) (first_entry code (map entry_of cs)) ≡ option_map entry_of (cond b (Some c) (first_named code cs))
+    either : (b : Bool) → first_entry code (map entry_of cs) ≡ option_map entry_of (first_with_code code cs)
+        → cond b (Some (entry_of c)) (first_entry code (map entry_of cs)) ≡ option_map entry_of (cond b (Some c) (first_with_code code cs))
     either true e = refl
     either false e = e
 
@@ -31,35 +31,35 @@ some_mapped (Some c) e p =
     (ap Some (sym r), q ∙ ap entry_of (sym r))
 
 -- What a look-up in the table tells of the command.
-pub found_none : (code : ℕ) → None ≡ first_entry code (map entry_of commands) → named code ≡ None
-unfolding named
-found_none code e = none_mapped (named code) (e ∙ told code commands)
+pub found_none : (code : ℕ) → None ≡ first_entry code (map entry_of commands) → command_with_code code ≡ None
+unfolding command_with_code
+found_none code e = none_mapped (command_with_code code) (e ∙ told code commands)
 
-pub found_some : (code : ℕ) (e : Entry) → Some e ≡ first_entry code (map entry_of commands) → (named code ≡ Some e.command) × (e ≡ entry_of e.command)
-unfolding named
-found_some code e p = some_mapped (named code) e (p ∙ told code commands)
+pub found_some : (code : ℕ) (e : Entry) → Some e ≡ first_entry code (map entry_of commands) → (command_with_code code ≡ Some e.command) × (e ≡ entry_of e.command)
+unfolding command_with_code
+found_some code e p = some_mapped (command_with_code code) e (p ∙ told code commands)
 
-pub entered : (code : ℕ) (o : Option Entry) → o ≡ first_entry code (map entry_of commands) → Entered code (ok_or o Code)
+pub entered : (code : ℕ) (o : Option Entry) → o ≡ first_entry code (map entry_of commands) → EntryOrRefusal code (ok_or o Code)
 entered code None p = (refl, found_none code p)
 entered code (Some e) p = found_some code e p
 
-first_code : (code : ℕ) (c d : Command) (ds : List Command) → (first_named code ds ≡ Some c → code_of c ≡ code) → (b : Bool) → eqb (code_of d) code ≡ b
-    → cond b (Some d) (first_named code ds) ≡ Some c → code_of c ≡ code
+first_code : (code : ℕ) (c d : Command) (ds : List Command) → (first_with_code code ds ≡ Some c → code_of c ≡ code) → (b : Bool) → eqb (code_of d) code ≡ b
+    → cond b (Some d) (first_with_code code ds) ≡ Some c → code_of c ≡ code
 first_code code c d ds later true t q = let same : d ≡ c = cc in ap code_of (sym same) ∙ eqb-true (code_of d) code t
 first_code code c d ds later false t q = later q
 
-first_named_code : (code : ℕ) (c : Command) (cs : List Command) → first_named code cs ≡ Some c → code_of c ≡ code
+first_named_code : (code : ℕ) (c : Command) (cs : List Command) → first_with_code code cs ≡ Some c → code_of c ≡ code
 first_named_code code c [] e = absurd (let z : ◌≡◌ {A = ℕ} 0 1 = cc in omega arith)
 first_named_code code c (d ∷ ds) e = first_code code c d ds (first_named_code code c ds) (eqb (code_of d) code) refl e
 
 -- A command that a code names has that code.
-pub named_code : (code : ℕ) (c : Command) → named code ≡ Some c → code_of c ≡ code
-unfolding named
+pub named_code : (code : ℕ) (c : Command) → command_with_code code ≡ Some c → code_of c ≡ code
+unfolding command_with_code
 named_code code c e = first_named_code code c commands e
 
 -- A command is named by its code.
-pub named_self : (c : Command) → named (code_of c) ≡ Some c
-unfolding named
+pub named_self : (c : Command) → command_with_code (code_of c) ≡ Some c
+unfolding command_with_code
 named_self Select = refl
 named_self UnselectNe = refl
 named_self UnselectIdFlag = refl

@@ -64,12 +64,12 @@ abbrev pub commands : List Command
 commands =
     Select ∷ UnselectNe ∷ UnselectIdFlag ∷ UnselectNoidFlag ∷ Query ∷ Scroll ∷ Repeat ∷ Reset ∷ Read ∷ Verify ∷ Lock ∷ Qlock ∷ ReadFlexible ∷ Write ∷ []
 
-abbrev pub first_named : ℕ → List Command → Option Command
-first_named code cs = find (λ c. code_of c == code) cs
+abbrev pub first_with_code : ℕ → List Command → Option Command
+first_with_code code cs = find (λ c. code_of c == code) cs
 
 -- The command with a code, if there is one.
-unfoldable pub named : ℕ → Option Command
-named code = first_named code commands
+unfoldable pub command_with_code : ℕ → Option Command
+command_with_code code = first_with_code code commands
 
 -- What a table of commands says of one.
 abbrev pub entry_of : Command → Entry

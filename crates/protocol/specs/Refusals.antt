@@ -18,11 +18,11 @@ abbrev pub refusal_in : {T : Type 0} → Result T Refusal → Option ℕ
 refusal_in (Ok x) = None
 refusal_in (Err e) = Some (number_of e)
 
-pub data Answer : Type 0 where
-  told : ℕ → Answer
+pub data WriteResult : Type 0 where
+  wrote : ℕ → WriteResult
   -- by the refusal's number
-  denied : ℕ → Answer
+  not_written : ℕ → WriteResult
 
-abbrev pub answer_of : Result ℕ Refusal → Answer
-answer_of (Ok n) = told n
-answer_of (Err e) = denied (number_of e)
+abbrev pub write_result : Result ℕ Refusal → WriteResult
+write_result (Ok n) = wrote n
+write_result (Err e) = not_written (number_of e)

@@ -1,7 +1,7 @@
 // The fourteen commands of the chip SL3ICS31, with their codes and the lengths of their frames.
 ghost use Rattle.std.specs.Prelude.{◌≡◌, map};
 ghost use Rattle.protocol.specs.Commands.{code_of, commands, entry_of, first_entry};
-ghost use Rattle.protocol.specs.Entries.{Entered};
+ghost use Rattle.protocol.specs.Entries.{EntryOrRefusal};
 
 use crate::refusal::Refusal;
 
@@ -160,7 +160,7 @@ pub fn find(code: u8) -> Option<Entry>
 impl TryFrom<u8> for Entry {
     type Error = Refusal;
 
-    ghost try_from_gives = { Entered };
+    ghost try_from_gives = { EntryOrRefusal };
 
     #[inline(always)]
     #[tactic(auto, using(crate::proofs::Lookups::entered))]

@@ -2,7 +2,7 @@
 use Rattle.std.proofs.Common.{◌≡◌, ℕ, zero, suc, ◌+◌, Bool, true, false, cond, List, length, get_or, refl, ◌∙◌, ltb}
 use Rattle.std.proofs.lemmas.List.{length-set}
 use Rattle.record.specs.declared.Tag.{Tag}
-use Rattle.record.specs.Gaps.{gapped, interrupted}
+use Rattle.record.specs.Gaps.{after_gap, interrupted}
 use Rattle.record.specs.Masks.{selects, stored}
 
 length_either : (b : Bool) (x y : List ℕ) (n : ℕ) → length x ≡ n → length y ≡ n → length (cond b x y) ≡ n
@@ -17,7 +17,7 @@ length-stored a mask bytes memory (suc n) =
     (length-set (stored a mask bytes memory n) (a + n) (get_or bytes n 0) ∙ length-stored a mask bytes memory n) (length-stored a mask bytes memory n)
 
 -- No gap changes how long a memory is.
-pub length-gapped : (microseconds : ℕ) (t : Tag) → length (gapped microseconds t).memory ≡ length t.memory
+pub length-gapped : (microseconds : ℕ) (t : Tag) → length (after_gap microseconds t).memory ≡ length t.memory
 length-gapped microseconds t = go (ltb microseconds 250) (ltb microseconds 4000000)
   where
     go : (short medium : Bool) → length (cond short t (cond medium (interrupted t) (record (interrupted t) { identified = false }))).memory ≡ length t.memory

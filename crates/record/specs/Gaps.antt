@@ -9,7 +9,7 @@ abbrev pub interrupted : Tag → Tag
 interrupted t = record t { state = Ready; counter = 0; mark = Clear; permission = None }
 
 -- A gap in microseconds: nothing below 250, all but the ID flag from there on, and all from 4,000,000 on.
-abbrev pub gapped : ℕ → Tag → Tag
-gapped us t =
+abbrev pub after_gap : ℕ → Tag → Tag
+after_gap us t =
     if nat_lt us 250 then t
     else (if nat_lt us 4000000 then interrupted t else record (interrupted t) { identified = false })

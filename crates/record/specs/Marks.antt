@@ -6,5 +6,5 @@ use Rattle.record.specs.Names.{unknown_text}
 use Rattle.record.specs.Records.{mark_number}
 
 -- What reading a number gives: the mark that has it, or an error, by its text, where none has.
-abbrev pub Marked : ℕ → Result WriteMark Unknown → Type 0
-Marked number r = MatchResult r (λ mark. mark_number mark ≡ number) (λ e. (unknown_text e ≡ codes "no write mark") × (2 < number))
+abbrev pub ReadsMark : ℕ → Result WriteMark Unknown → Type 0
+ReadsMark number r = MatchResult r (λ mark. mark_number mark ≡ number) (λ e. (unknown_text e ≡ codes "no write mark") × (2 < number))

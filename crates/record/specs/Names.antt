@@ -15,6 +15,6 @@ unknown_text unknown.State = codes "no state"
 unknown_text unknown.Mark = codes "no write mark"
 
 -- What reading a text gives: the state that it names, or an error, by its text, where it names none.
-abbrev pub Named : List ℕ → Result State Unknown → Type 0
-Named text r =
+abbrev pub ReadsState : List ℕ → Result State Unknown → Type 0
+ReadsState text r =
     MatchResult r (λ state. state_name state ≡ text) (λ e. (unknown_text e ≡ codes "no state") × ((state : State) → state_name state ≢ text))

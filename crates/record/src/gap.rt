@@ -1,6 +1,6 @@
 // What a tag forgets while nothing is sent.
 ghost use Rattle.std.specs.Prelude.{◌≡◌};
-ghost use Rattle.record.specs.Gaps.{gapped};
+ghost use Rattle.record.specs.Gaps.{after_gap};
 
 use crate::{State, Tag, WriteMark};
 
@@ -13,7 +13,7 @@ pub const LONG_GAP: u32 = 4_000_000;
 impl Tag {
     // Lets so many microseconds pass.
     pub fn pass(&mut self, microseconds: u32)
-        ensures tag { self.new ≡ gapped microseconds self.old }
+        ensures tag { self.new ≡ after_gap microseconds self.old }
     {
         if microseconds < SHORT_GAP {
             return;

@@ -168,7 +168,7 @@ impl PartialEq for Tag {
     }
 }
 
-// An element of a row, or what counts for one beyond its end.
+// An element of a list, or what counts for one beyond its end.
 fn element<T: Copy>(row: &[T], place: usize, beyond: T) -> T
     ensures { result ≡ slice_index_or row.now place beyond }
 {

@@ -1,5 +1,5 @@
 // Write marks, read of numbers.
-ghost use Rattle.record.specs.Marks.{Marked};
+ghost use Rattle.record.specs.Marks.{ReadsMark};
 
 use crate::WriteMark;
 use crate::unknown::Unknown;
@@ -7,7 +7,7 @@ use crate::unknown::Unknown;
 impl TryFrom<u8> for WriteMark {
     type Error = Unknown;
 
-    ghost try_from_gives = { Marked };
+    ghost try_from_gives = { ReadsMark };
 
     fn try_from(number: u8) -> Result<WriteMark, Unknown> {
         match number {

@@ -1,6 +1,6 @@
 // The names of a tag's states, told and read.
 ghost use Rattle.std.specs.Prelude.{◌≡◌, Some};
-ghost use Rattle.record.specs.Names.{state_name, Named};
+ghost use Rattle.record.specs.Names.{state_name, ReadsState};
 
 use crate::State;
 use crate::unknown::Unknown;
@@ -30,7 +30,7 @@ impl fmt::Display for State {
 impl FromStr for State {
     type Err = Unknown;
 
-    ghost from_str_gives = { Named };
+    ghost from_str_gives = { ReadsState };
 
     fn from_str(text: &str) -> Result<State, Unknown> {
         match text {

@@ -2,7 +2,7 @@
 use Rattle.std.proofs.Common.{◌≡◌, ℕ, ◌+◌, List, [], ◌∷◌, ◌++◌, length, get_or, refl}
 use Rattle.std.proofs.lemmas.List.FromFn.{length-map-range_with_len, map-range_with_len_more}
 use Rattle.std.proofs.lemmas.List.{length-append}
-use Rattle.crc.specs.Check.{check_value, sent, sealed}
+use Rattle.crc.specs.Check.{check_value, high_byte_first, sealed}
 use Rattle.record.specs.Records.{bytes_from}
 
 pub bytes_from_none : (memory : List ℕ) (a : ℕ) → bytes_from memory a 0 ≡ []
@@ -19,4 +19,4 @@ length-bytes_from memory a n = length-map-range_with_len (λ i. get_or memory i 
 
 pub length-sealed : (bytes : List ℕ) → length (sealed bytes) ≡ length bytes + 2
 unfolding sealed
-length-sealed bytes = length-append bytes (sent (check_value bytes))
+length-sealed bytes = length-append bytes (high_byte_first (check_value bytes))

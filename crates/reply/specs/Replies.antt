@@ -17,9 +17,9 @@ abbrev pub longest_reply : ℕ
 longest_reply = 258
 
 -- A reply as it is sent, or none.
-abbrev pub sounding : Option (List ℕ) → Option (List ℕ)
-sounding None = None
-sounding (Some bytes) = Some (sealed bytes)
+abbrev pub sealed_reply : Option (List ℕ) → Option (List ℕ)
+sealed_reply None = None
+sealed_reply (Some bytes) = Some (sealed bytes)
 
 -- A reply, with its check value, always leaves the same value in the register.
 abbrev pub Residual : Option (List ℕ) → Type 0

@@ -3,9 +3,9 @@
 
 ghost use Rattle.std.specs.Prelude.{◌≡◌, ◌+◌, ◌≤◌, length, is_ok};
 ghost use Rattle.crc.specs.Check.{sealed};
-ghost use Rattle.frame.specs.Makings.{made, answering, leaving, writing};
+ghost use Rattle.frame.specs.Makings.{made, result_of, buffer_after, writing};
 ghost use Rattle.frame.specs.Writing.{Put};
-ghost use Rattle.protocol.specs.Refusals.{told, answer_of};
+ghost use Rattle.protocol.specs.Refusals.{wrote, write_result};
 ghost use Rattle.record.specs.Records.{bytes_from};
 ghost use Rattle.reply.specs.Replies.{data_of, longest_reply};
 
@@ -30,9 +30,9 @@ pub enum Reply {
 impl Reply {
     // Writes the reply of a tag, data and check value, at the front of a buffer, and tells its length.
     pub fn write(self, tag: &Tag, buffer: &mut [u8]) -> Result<usize, Refusal>
-        ensures answer { answer_of result ≡ answering (writing (sealed (data_of tag.now self)) (length buffer.old)) }
+        ensures answer { write_result result ≡ result_of (writing (sealed (data_of tag.now self)) (length buffer.old)) }
         ensures buffer { buffer.new ≡
-            leaving (writing (sealed (data_of tag.now self)) (length buffer.old)) buffer.old }
+            buffer_after (writing (sealed (data_of tag.now self)) (length buffer.old)) buffer.old }
         ensures longest { length (sealed (data_of tag.now self)) ≤ longest_reply }
     {
         if buffer.len() < self.length(tag) {
@@ -44,8 +44,8 @@ impl Reply {
     // Writes the reply into a buffer that has room for it.
     fn lay(self, tag: &Tag, buffer: &mut [u8]) -> Result<usize, Refusal>
         requires { length (sealed (data_of tag.now self)) ≤ length buffer.old }
-        ensures answer { answer_of result ≡ told (length (sealed (data_of tag.now self))) }
-        ensures buffer { buffer.new ≡ leaving (made (sealed (data_of tag.now self))) buffer.old }
+        ensures answer { write_result result ≡ wrote (length (sealed (data_of tag.now self))) }
+        ensures buffer { buffer.new ≡ buffer_after (made (sealed (data_of tag.now self))) buffer.old }
     {
         let mut writer = Writer::new(buffer);
         self.put_data(tag, &mut writer)?;

@@ -1,15 +1,15 @@
 // The front of a lent buffer, as paper.
 ghost use Rattle.std.specs.Prelude.{◌-◌, length};
-ghost use Rattle.rows.specs.Filling.{rows_of, room_of};
+ghost use Rattle.slice_vec.specs.Filling.{items_of, capacity_of};
 
 use crate::paper::Paper;
 use protocol::refusal::Refusal;
-use rows::list::Rows;
+use slice_vec::vec::SliceVec;
 
-impl Paper for Rows<'_, u8> {
+impl Paper for SliceVec<'_, u8> {
     ghost use Rattle.sheet.specs.Fronts.{Filled};
 
-    ghost room = { λ front. room_of front - length (rows_of front) };
+    ghost room = { λ front. capacity_of front - length (items_of front) };
 
     ghost Shows = { Filled };
 

@@ -2,8 +2,8 @@
 #![tactic(auto)]
 
 ghost use Rattle.std.specs.Prelude.{◌≡◌, ◌≤◌, length};
-ghost use Rattle.frame.specs.Makings.{made, answering, leaving, writing};
-ghost use Rattle.protocol.specs.Refusals.{told, answer_of};
+ghost use Rattle.frame.specs.Makings.{made, result_of, buffer_after, writing};
+ghost use Rattle.protocol.specs.Refusals.{wrote, write_result};
 ghost use Rattle.sheet.specs.Readings.{LinesReadBack};
 ghost use Rattle.sheet.specs.Sheets.{sheet};
 
@@ -16,22 +16,22 @@ use crate::printing::print;
 use crate::room::Room;
 use protocol::refusal::Refusal;
 use record::Serial;
-use rows::list::Rows;
+use slice_vec::vec::SliceVec;
 use slot::ending::Report;
-use slot::row::SlotRow;
+use slot::listed::ListedSlot;
 
 // Writes the sheet at the front of a buffer, and tells its length.
 #[tactic(auto, using(crate::proofs::Readings::lines_read_back))]
 pub fn write(
-    slots: &[SlotRow],
+    slots: &[ListedSlot],
     serials: &[Serial],
     report: &Report,
     buffer: &mut [u8],
 ) -> Result<usize, Refusal>
-    ensures answer { answer_of result
-        ≡ answering (writing (sheet slots.now serials.now report.now) (length buffer.old)) }
+    ensures answer { write_result result
+        ≡ result_of (writing (sheet slots.now serials.now report.now) (length buffer.old)) }
     ensures buffer { buffer.new
-        ≡ leaving (writing (sheet slots.now serials.now report.now) (length buffer.old)) buffer.old }
+        ≡ buffer_after (writing (sheet slots.now serials.now report.now) (length buffer.old)) buffer.old }
     ensures lines { LinesReadBack }
 {
     // A buffer that is too short is refused before anything is written into it.
@@ -41,16 +41,16 @@ pub fn write(
 
 // Writes the sheet into a buffer that has room for it.
 fn lay(
-    slots: &[SlotRow],
+    slots: &[ListedSlot],
     serials: &[Serial],
     report: &Report,
     buffer: &mut [u8],
 ) -> Result<usize, Refusal>
     requires { length (sheet slots.now serials.now report.now) ≤ length buffer.old }
-    ensures answer { answer_of result ≡ told (length (sheet slots.now serials.now report.now)) }
-    ensures buffer { buffer.new ≡ leaving (made (sheet slots.now serials.now report.now)) buffer.old }
+    ensures answer { write_result result ≡ wrote (length (sheet slots.now serials.now report.now)) }
+    ensures buffer { buffer.new ≡ buffer_after (made (sheet slots.now serials.now report.now)) buffer.old }
 {
-    let mut front = Rows::new(buffer);
+    let mut front = SliceVec::new(buffer);
     print(&mut front, slots, serials, report)?;
     Ok(front.len())
 }

@@ -7,7 +7,7 @@ use crate::paper::Paper;
 use protocol::refusal::Refusal;
 use record::Serial;
 use slot::ending::Report;
-use slot::row::SlotRow;
+use slot::listed::ListedSlot;
 
 // How wide a column of numbers is, and one of bytes.
 const NUMBER_WIDTH: usize = 6;
@@ -17,7 +17,7 @@ const BYTE_WIDTH: usize = 4;
 // Prints the whole sheet.
 pub(crate) fn print<P: Paper>(
     paper: &mut P,
-    slots: &[SlotRow],
+    slots: &[ListedSlot],
     serials: &[Serial],
     report: &Report,
 ) -> Result<(), Refusal>
@@ -29,7 +29,7 @@ pub(crate) fn print<P: Paper>(
 }
 
 // Prints a line for each slot, which are numbered from 1.
-fn print_slots<P: Paper>(paper: &mut P, slots: &[SlotRow]) -> Result<(), Refusal>
+fn print_slots<P: Paper>(paper: &mut P, slots: &[ListedSlot]) -> Result<(), Refusal>
     ensures { Printed P.room P.Shows (slot_lines 1 slots.now) paper.old paper.new result }
 {
     for (place, slot) in slots.iter().enumerate() {
@@ -38,7 +38,7 @@ fn print_slots<P: Paper>(paper: &mut P, slots: &[SlotRow]) -> Result<(), Refusal
     Ok(())
 }
 
-fn print_slot<P: Paper>(paper: &mut P, number: u64, slot: &SlotRow) -> Result<(), Refusal>
+fn print_slot<P: Paper>(paper: &mut P, number: u64, slot: &ListedSlot) -> Result<(), Refusal>
     ensures { Printed P.room P.Shows (slot_line number slot.now) paper.old paper.new result }
 {
     let numbers = [

@@ -6,7 +6,7 @@ use Rattle.protocol.specs.declared.command.Command.TheVariants.{Select, Query, S
 use Rattle.protocol.specs.Commands.{code_of}
 use Rattle.reply.specs.Replies.{longest_reply}
 use Rattle.field.specs.declared.hearing.Hearing.{Hearing}
-use Rattle.field.specs.Airs.{Air, caught}
+use Rattle.field.specs.Airs.{Air, heard_bytes}
 use Rattle.field.specs.Sends.{padded}
 
 -- A frame has the code, the parameters and the check value.
@@ -34,12 +34,12 @@ query = frame_of Query []
 unfoldable pub scroll : List ℕ
 scroll = frame_of Scroll []
 
-unfoldable pub again : List ℕ
-again = frame_of Repeat []
+unfoldable pub repeat : List ℕ
+repeat = frame_of Repeat []
 
 unfoldable pub read : List ℕ → List ℕ
 read serial = frame_of Read (target serial)
 
 -- The serial number in a reply: the first eight bytes of what stands in the reply buffer.
 unfoldable pub serial_in : Hearing → Air → List ℕ
-serial_in h air = take 8 (padded longest_reply (caught h air))
+serial_in h air = take 8 (padded longest_reply (heard_bytes h air))

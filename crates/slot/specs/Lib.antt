@@ -1,6 +1,6 @@
+pub mod Calls
 pub mod Commands
-pub mod Countings
-pub mod Going
+pub mod Counts
 pub mod Rules
-pub mod Runs
 pub mod Slots
+pub mod Traces

@@ -15,13 +15,13 @@ use record::{SERIAL_LENGTH, Serial};
 
 // What is heard, and the first bytes of what then stands in the reply buffer: a lone tag's serial number.
 #[derive(Clone, Copy)]
-pub(crate) struct Answer {
+pub(crate) struct Received {
     pub(crate) hearing: Hearing,
     pub(crate) serial: Serial,
 }
 
 // Sends a command with parameters that fit it.
-pub(crate) fn ask<F: Field>(field: &mut F, command: Command, parameters: &[u8], row: u64) -> Answer
+pub(crate) fn ask<F: Field>(field: &mut F, command: Command, parameters: &[u8], row: u64) -> Received
     requires { length parameters.now + 3 ≡ length_of command }
     ensures sent { AfterSend F.Field (frame_of command parameters.now) row result.hearing field.old field.new }
     ensures serial { result.serial ≡
@@ -63,7 +63,7 @@ fn put_frame(command: Command, parameters: &[u8], frame: &mut [u8]) -> usize
 }
 
 // Sends a frame, and takes the serial number from the reply.
-fn transmit<F: Field>(field: &mut F, bytes: &[u8], row: u64) -> Answer
+fn transmit<F: Field>(field: &mut F, bytes: &[u8], row: u64) -> Received
     ensures sent { AfterSend F.Field bytes.now row result.hearing field.old field.new }
     ensures serial { result.serial ≡ serial_in result.hearing (on_air (opening bytes.now) row (F.tags field.old)) }
 {
@@ -72,7 +72,7 @@ fn transmit<F: Field>(field: &mut F, bytes: &[u8], row: u64) -> Answer
     let heard = field.send(bytes, row, &mut reply);
     serial.copy_from_slice(&reply[..SERIAL_LENGTH]);
     // A buffer of this length is never refused.
-    Answer {
+    Received {
         hearing: heard.unwrap_or(Hearing::Silence),
         serial,
     }

@@ -1,7 +1,7 @@
 // What a sweep counts.
 ghost use Rattle.std.specs.Prelude.{◌≡◌, ◌<◌};
-ghost use Rattle.slot.specs.Countings.{counted, sent_one};
-ghost use Rattle.slot.specs.Going.{no_counts};
+ghost use Rattle.slot.specs.Counts.{with_slot, with_command};
+ghost use Rattle.slot.specs.Calls.{no_counts};
 
 use field::hearing::Hearing;
 
@@ -29,7 +29,7 @@ impl Counts {
     // One command more, where the budget has one left.
     pub(crate) fn with_command(self) -> Counts
         requires { self.commands < 65535 }
-        ensures { result ≡ sent_one self }
+        ensures { result ≡ with_command self }
     {
         Counts {
             commands: self.commands + 1,
@@ -40,7 +40,7 @@ impl Counts {
     // One command more, and the slot that it opened.
     pub(crate) fn with_slot(self, hearing: Hearing) -> Counts
         requires { self.commands < 65535 }
-        ensures { result ≡ counted hearing self }
+        ensures { result ≡ with_slot hearing self }
     {
         let counts = self.with_command();
         match hearing {

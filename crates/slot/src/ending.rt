@@ -1,7 +1,7 @@
 // How a sweep ends.
 ghost use Rattle.std.specs.Prelude.{◌≡◌, Some};
 ghost use Rattle.slot.specs.declared.ending.End.TheVariants as end;
-ghost use Rattle.slot.specs.Countings.{stop_number, end_number, stop_name};
+ghost use Rattle.slot.specs.Counts.{stop_number, end_number, stop_name};
 
 use crate::counts::Counts;
 use std::fmt;

@@ -10,7 +10,7 @@ use record::Serial;
 // Where a sweep stands: its budget of commands, how many groups wait, the place of the row of coins to draw next, and
 // what it has counted.
 #[derive(Clone, Copy)]
-pub(crate) struct Stand {
+pub(crate) struct Progress {
     pub(crate) budget: u16,
     pub(crate) waiting: u8,
     pub(crate) next: usize,
@@ -20,19 +20,19 @@ pub(crate) struct Stand {
 // Nobody replied, or the one who did has been read. The slot can be left.
 #[derive(Drop)]
 pub struct SilentSlot {
-    pub(crate) stand: Stand,
+    pub(crate) progress: Progress,
 }
 
 // One tag replied, and waits to be read. The slot must be read or given up: it cannot be dropped.
 pub struct LoneSlot {
-    pub(crate) stand: Stand,
+    pub(crate) progress: Progress,
     pub(crate) serial: Serial,
 }
 
 // Several tags replied, or one that was spoiled. The slot can be split.
 #[derive(Drop)]
 pub struct ClashSlot {
-    pub(crate) stand: Stand,
+    pub(crate) progress: Progress,
 }
 
 pub enum Slot {
@@ -42,7 +42,7 @@ pub enum Slot {
 }
 
 // What comes of leaving a silent slot: the next one, or the end of a whole sweep.
-pub enum Left {
+pub enum Continuation {
     Next(Slot),
     Whole(Counts),
 }

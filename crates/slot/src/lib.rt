@@ -7,5 +7,5 @@ pub mod ending;
 pub mod kinds;
 pub mod lists;
 mod opening;
-pub mod row;
+pub mod listed;
 pub mod working;

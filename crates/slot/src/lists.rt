@@ -1,11 +1,11 @@
 // The lists that a sweep fills.
-use crate::row::SlotRow;
+use crate::listed::ListedSlot;
 use record::Serial;
-use rows::list::Rows;
+use slice_vec::vec::SliceVec;
 
 // Its slots, and the serial numbers of the tags that it has read.
 #[derive(Drop)]
 pub struct Lists<'a> {
-    pub slots: Rows<'a, SlotRow>,
-    pub serials: Rows<'a, Serial>,
+    pub slots: SliceVec<'a, ListedSlot>,
+    pub serials: SliceVec<'a, Serial>,
 }

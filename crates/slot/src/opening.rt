@@ -4,22 +4,22 @@ ghost use Rattle.frame.specs.Openings.{opening};
 ghost use Rattle.field.specs.Promises.{AfterSend};
 ghost use Rattle.field.specs.Sends.{on_air};
 ghost use Rattle.protocol.specs.Commands.{length_of};
-ghost use Rattle.rows.specs.Filling.{rows_of, is_full, Behind};
+ghost use Rattle.slice_vec.specs.Filling.{items_of, is_full, Behind};
 ghost use Rattle.slot.specs.Commands.{frame_of, wanted};
-ghost use Rattle.slot.specs.Countings.{counted};
+ghost use Rattle.slot.specs.Counts.{with_slot};
 ghost use Rattle.slot.specs.Rules.{coins_at, opened_by};
-ghost use Rattle.slot.specs.Slots.{heard_in, phase_of, phase_with, stand_of, standing, MayOpen};
+ghost use Rattle.slot.specs.Slots.{heard_in, phase_of, phase_with, progress_of, progress_with, MayOpen};
 
-use crate::asking::{Answer, ask};
+use crate::asking::{Received, ask};
 use crate::ending::{Stop, Stopped};
-use crate::kinds::{ClashSlot, LoneSlot, SilentSlot, Slot, Stand};
+use crate::kinds::{ClashSlot, LoneSlot, SilentSlot, Slot, Progress};
 use crate::lists::Lists;
-use crate::row::SlotRow;
+use crate::listed::ListedSlot;
 use field::field::Field;
 use field::hearing::Hearing;
 use protocol::command::{Command, OWN};
 
-impl Stand {
+impl Progress {
     pub(crate) fn is_spent(self) -> bool
         ensures test { result ≡ nat_le self.budget self.counts.commands }
         ensures room { IsFalse result → self.counts.commands < 65535 }
@@ -37,22 +37,22 @@ impl Stand {
     }
 
     // The slot of an answer.
-    fn opened(self, answer: Answer) -> Slot
+    fn opened(self, answer: Received) -> Slot
         requires { self.counts.commands < 65535 }
         ensures hearing { heard_in result ≡ answer.hearing }
         ensures phase { phase_of result ≡ phase_with answer.hearing answer.serial }
-        ensures stand { stand_of result ≡
-            standing self.budget self.waiting self.next (counted answer.hearing self.counts) }
+        ensures progress { progress_of result ≡
+            progress_with self.budget self.waiting self.next (with_slot answer.hearing self.counts) }
     {
-        let Answer { hearing, serial } = answer;
-        let stand = Stand {
+        let Received { hearing, serial } = answer;
+        let progress = Progress {
             counts: self.counts.with_slot(hearing),
             ..self
         };
         match hearing {
-            Hearing::Silence => Slot::Silent(SilentSlot { stand }),
-            Hearing::Lone => Slot::Lone(LoneSlot { stand, serial }),
-            Hearing::Clash => Slot::Clash(ClashSlot { stand }),
+            Hearing::Silence => Slot::Silent(SilentSlot { progress }),
+            Hearing::Lone => Slot::Lone(LoneSlot { progress, serial }),
+            Hearing::Clash => Slot::Clash(ClashSlot { progress }),
         }
     }
 }
@@ -60,38 +60,38 @@ impl Stand {
 // Sends SELECT for the chip's own tags, and opens its slot.
 pub(crate) fn select<F: Field>(
     field: &mut F,
-    stand: Stand,
+    progress: Progress,
     lists: &mut Lists<'_>,
 ) -> Result<Slot, Stopped>
-    ensures { MayOpen F.Field Command.Select (frame_of Command.Select wanted) 0 stand
+    ensures { MayOpen F.Field Command.Select (frame_of Command.Select wanted) 0 progress
         lists.old lists.new field.old field.new result }
 {
-    open_slot(field, Command::Select, &OWN, 0, stand, lists)
+    open_slot(field, Command::Select, &OWN, 0, progress, lists)
 }
 
 // Sends QUERY with a row of coins, and opens its slot.
 pub(crate) fn query<F: Field>(
     field: &mut F,
     row: u64,
-    stand: Stand,
+    progress: Progress,
     lists: &mut Lists<'_>,
 ) -> Result<Slot, Stopped>
-    ensures { MayOpen F.Field Command.Query (frame_of Command.Query []) row stand
+    ensures { MayOpen F.Field Command.Query (frame_of Command.Query []) row progress
         lists.old lists.new field.old field.new result }
 {
-    open_slot(field, Command::Query, &[], row, stand, lists)
+    open_slot(field, Command::Query, &[], row, progress, lists)
 }
 
 // Sends SCROLL, and opens its slot.
 pub(crate) fn scroll<F: Field>(
     field: &mut F,
-    stand: Stand,
+    progress: Progress,
     lists: &mut Lists<'_>,
 ) -> Result<Slot, Stopped>
-    ensures { MayOpen F.Field Command.Scroll (frame_of Command.Scroll []) 0 stand
+    ensures { MayOpen F.Field Command.Scroll (frame_of Command.Scroll []) 0 progress
         lists.old lists.new field.old field.new result }
 {
-    open_slot(field, Command::Scroll, &[], 0, stand, lists)
+    open_slot(field, Command::Scroll, &[], 0, progress, lists)
 }
 
 // The row of coins at a place, where behind the last comes the first.
@@ -109,20 +109,20 @@ fn open_slot<F: Field>(
     command: Command,
     parameters: &[u8],
     row: u64,
-    stand: Stand,
+    progress: Progress,
     lists: &mut Lists<'_>,
 ) -> Result<Slot, Stopped>
     requires { length parameters.now + 3 ≡ length_of command }
-    ensures { MayOpen F.Field command (frame_of command parameters.now) row stand
+    ensures { MayOpen F.Field command (frame_of command parameters.now) row progress
         lists.old lists.new field.old field.new result }
 {
-    if stand.is_spent() {
-        return Err(stand.stopped(Stop::Spent));
+    if progress.is_spent() {
+        return Err(progress.stopped(Stop::Spent));
     }
     if lists.slots.is_full() {
-        return Err(stand.stopped(Stop::Full));
+        return Err(progress.stopped(Stop::Full));
     }
-    Ok(hear_slot(field, command, parameters, row, stand, lists))
+    Ok(hear_slot(field, command, parameters, row, progress, lists))
 }
 
 // The same, where neither is so. What it owes stands fact by fact, so that a wrong body shows which it breaks.
@@ -131,28 +131,28 @@ fn hear_slot<F: Field>(
     command: Command,
     parameters: &[u8],
     row: u64,
-    stand: Stand,
+    progress: Progress,
     lists: &mut Lists<'_>,
 ) -> Slot
     requires fits { length parameters.now + 3 ≡ length_of command }
-    requires budget { stand.counts.commands < 65535 }
+    requires budget { progress.counts.commands < 65535 }
     requires room { IsFalse (is_full lists.old.slots) }
     ensures sent { AfterSend F.Field (frame_of command parameters.now) row
         (heard_in result) field.old field.new }
     ensures phase { phase_of result ≡ opened_by
         (heard_in result) (on_air (opening (frame_of command parameters.now)) row (F.tags field.old)) }
-    ensures stand { stand_of result ≡
-        standing stand.budget stand.waiting stand.next (counted (heard_in result) stand.counts) }
-    ensures slots { rows_of lists.new.slots ≡ rows_of lists.old.slots
-        ++ record { command = command; hearing = heard_in result; waiting = stand.waiting } ∷ [] }
+    ensures progress { progress_of result ≡
+        progress_with progress.budget progress.waiting progress.next (with_slot (heard_in result) progress.counts) }
+    ensures slots { items_of lists.new.slots ≡ items_of lists.old.slots
+        ++ record { command = command; hearing = heard_in result; waiting = progress.waiting } ∷ [] }
     ensures behind { Behind lists.old.slots lists.new.slots }
     ensures serials { lists.new.serials ≡ lists.old.serials }
 {
     let answer = ask(field, command, parameters, row);
-    let _ = lists.slots.push(SlotRow {
+    let _ = lists.slots.push(ListedSlot {
         command,
         hearing: answer.hearing,
-        waiting: stand.waiting,
+        waiting: progress.waiting,
     });
-    stand.opened(answer)
+    progress.opened(answer)
 }

@@ -2,20 +2,20 @@
 ghost use Rattle.std.specs.Prelude.{◌≡◌, ℕ, ◌<◌, if◌then◌else◌, List, [], length, Some, None};
 ghost use Rattle.std.specs.Prelude.{IsFalse, IfOk, IfErr, OnOk};
 ghost use Rattle.protocol.specs.declared.command.Command.TheVariants as command;
-ghost use Rattle.rows.specs.Filling.{rows_of, is_full, and_row};
-ghost use Rattle.slot.specs.Going.{setting, at_slot, at_silent, at_lone, at_clash, serial_heard, budget_in, counts_in};
-ghost use Rattle.slot.specs.Going.{where_opened, where_split, where_read, where_left, where_closed, Begins, Leads};
-ghost use Rattle.slot.specs.Going.{counts_opened, counts_left, counts_closed, counts_read, no_counts};
-ghost use Rattle.slot.specs.Going.{rows_opened, rows_left, BothBehind, IsWithin, handed_back, is_recorded};
-ghost use Rattle.slot.specs.Going.{at_unread, refused_by};
-ghost use Rattle.slot.specs.Countings.{stop_number};
+ghost use Rattle.slice_vec.specs.Filling.{items_of, is_full, with_item};
+ghost use Rattle.slot.specs.Calls.{setting, at_slot, at_silent, at_lone, at_clash, serial_heard, budget_in, counts_in};
+ghost use Rattle.slot.specs.Calls.{position_opened, position_split, position_read, position_after, position_closed, Begins, Continues};
+ghost use Rattle.slot.specs.Calls.{counts_opened, counts_after, counts_closed, counts_read, no_counts};
+ghost use Rattle.slot.specs.Calls.{slots_opened, slots_after, BothBehind, IsWithin, handed_back, is_recorded};
+ghost use Rattle.slot.specs.Calls.{at_unread, split_refusal};
+ghost use Rattle.slot.specs.Counts.{stop_number};
 ghost use Rattle.slot.specs.Rules.{in_silence, in_clash, in_reading};
-ghost use Rattle.slot.specs.Slots.{standing};
+ghost use Rattle.slot.specs.Slots.{progress_with};
 
 use crate::asking::{read, repeat};
 use crate::counts::Counts;
 use crate::ending::{Stop, Stopped};
-use crate::kinds::{ClashSlot, GivenUp, Left, LoneSlot, SilentSlot, Slot, Stand, Unsplit};
+use crate::kinds::{ClashSlot, GivenUp, Continuation, LoneSlot, SilentSlot, Slot, Progress, Unsplit};
 use crate::lists::Lists;
 use crate::opening::{coins_at, query, scroll, select};
 use field::declined::Declined;
@@ -36,22 +36,22 @@ pub fn is_recorded(coins: &[u64]) -> bool
 // Begins a sweep: empties the lists, and sends SELECT.
 pub fn open<F: Field>(field: &mut F, budget: u16, lists: &mut Lists<'_>) -> Result<Slot, Stopped>
     ensures rule { (coins : List ℕ) →
-        Begins F.Field (setting coins budget lists.old) (where_opened result) field.old field.new lists.new }
+        Begins F.Field (setting coins budget lists.old) (position_opened result) field.old field.new lists.new }
     ensures behind { BothBehind lists.old lists.new }
-    ensures counts { counts_in (where_opened result) ≡ counts_opened no_counts result }
-    ensures within { OnOk result (IsWithin budget (where_opened result)) }
-    ensures slots { rows_of lists.new.slots ≡ rows_opened command.Select [] result }
-    ensures serials { rows_of lists.new.serials ≡ [] }
+    ensures counts { counts_in (position_opened result) ≡ counts_opened no_counts result }
+    ensures within { OnOk result (IsWithin budget (position_opened result)) }
+    ensures slots { items_of lists.new.slots ≡ slots_opened command.Select [] result }
+    ensures serials { items_of lists.new.serials ≡ [] }
 {
     lists.slots.clear();
     lists.serials.clear();
-    let stand = Stand {
+    let progress = Progress {
         budget,
         waiting: 0,
         next: 0,
         counts: Counts::new(),
     };
-    select(field, stand, lists)
+    select(field, progress, lists)
 }
 
 impl ClashSlot {
@@ -62,13 +62,13 @@ impl ClashSlot {
         coins: &[u64],
         lists: &mut Lists<'_>,
     ) -> Result<Slot, Unsplit>
-        ensures refusal { refused_by result ≡ (if is_recorded coins.now then None else Some 10) }
-        ensures rule { Leads F.Field coins.now
-            (at_clash self) (where_split result) field.old field.new lists.old lists.new }
+        ensures refusal { split_refusal result ≡ (if is_recorded coins.now then None else Some 10) }
+        ensures rule { Continues F.Field coins.now
+            (at_clash self) (position_split result) field.old field.new lists.old lists.new }
         ensures behind { BothBehind lists.old lists.new }
-        ensures counts { counts_in (where_split result) ≡ counts_opened (counts_in (at_clash self)) result }
-        ensures within { OnOk result (IsWithin (budget_in (at_clash self)) (where_split result)) }
-        ensures slots { rows_of lists.new.slots ≡ rows_opened command.Query (rows_of lists.old.slots) result }
+        ensures counts { counts_in (position_split result) ≡ counts_opened (counts_in (at_clash self)) result }
+        ensures within { OnOk result (IsWithin (budget_in (at_clash self)) (position_split result)) }
+        ensures slots { items_of lists.new.slots ≡ slots_opened command.Query (items_of lists.old.slots) result }
         ensures serials { lists.new.serials ≡ lists.old.serials }
         ensures back { handed_back result self field.old field.new lists.old lists.new }
     {
@@ -78,27 +78,27 @@ impl ClashSlot {
                 given: self,
             }));
         }
-        let ClashSlot { stand } = self;
-        Ok(stand.split(field, coins, lists)?)
+        let ClashSlot { progress } = self;
+        Ok(progress.split(field, coins, lists)?)
     }
 }
 
 impl SilentSlot {
     // Sends SCROLL for the next group that waits, or the closing REPEAT if none does.
-    pub fn leave<F: Field>(self, field: &mut F, lists: &mut Lists<'_>) -> Result<Left, Stopped>
+    pub fn leave<F: Field>(self, field: &mut F, lists: &mut Lists<'_>) -> Result<Continuation, Stopped>
         ensures rule { (coins : List ℕ) →
-            Leads F.Field coins (at_silent self) (where_left result) field.old field.new lists.old lists.new }
+            Continues F.Field coins (at_silent self) (position_after result) field.old field.new lists.old lists.new }
         ensures behind { BothBehind lists.old lists.new }
-        ensures counts { counts_in (where_left result) ≡ counts_left (counts_in (at_silent self)) result }
-        ensures within { OnOk result (IsWithin (budget_in (at_silent self)) (where_left result)) }
-        ensures slots { rows_of lists.new.slots ≡ rows_left (rows_of lists.old.slots) result }
+        ensures counts { counts_in (position_after result) ≡ counts_after (counts_in (at_silent self)) result }
+        ensures within { OnOk result (IsWithin (budget_in (at_silent self)) (position_after result)) }
+        ensures slots { items_of lists.new.slots ≡ slots_after (items_of lists.old.slots) result }
         ensures serials { lists.new.serials ≡ lists.old.serials }
     {
-        let SilentSlot { stand } = self;
-        if stand.waiting == 0 {
-            return Ok(Left::Whole(stand.close(field)?));
+        let SilentSlot { progress } = self;
+        if progress.waiting == 0 {
+            return Ok(Continuation::Whole(progress.close(field)?));
         }
-        Ok(Left::Next(stand.scroll(field, lists)?))
+        Ok(Continuation::Next(progress.scroll(field, lists)?))
     }
 }
 
@@ -107,39 +107,39 @@ impl LoneSlot {
     // that stops here has not heard one.
     pub fn read<F: Field>(self, field: &mut F, lists: &mut Lists<'_>) -> Result<SilentSlot, Stopped>
         ensures rule { (coins : List ℕ) →
-            Leads F.Field coins (at_lone self) (where_read result) field.old field.new lists.old lists.new }
+            Continues F.Field coins (at_lone self) (position_read result) field.old field.new lists.old lists.new }
         ensures behind { BothBehind lists.old lists.new }
-        ensures counts { counts_in (where_read result) ≡
-            counts_read (counts_in (at_lone self)) (counts_in (where_read result)).commands }
-        ensures within { OnOk result (IsWithin (budget_in (at_lone self)) (where_read result)) }
+        ensures counts { counts_in (position_read result) ≡
+            counts_read (counts_in (at_lone self)) (counts_in (position_read result)).commands }
+        ensures within { OnOk result (IsWithin (budget_in (at_lone self)) (position_read result)) }
         ensures sent { IfOk result (λ s. (counts_in (at_lone self)).commands < (counts_in (at_silent s)).commands) }
         ensures stop { IfErr result (λ s. stop_number s.stop ≡ (if is_full lists.old.serials then 9 else 8)) }
-        ensures unread { (coins : List ℕ) → IfErr result (λ s. IsFalse (is_full lists.old.serials) → Leads F.Field coins
+        ensures unread { (coins : List ℕ) → IfErr result (λ s. IsFalse (is_full lists.old.serials) → Continues F.Field coins
             (at_lone self) (at_unread self s.counts) field.old field.new lists.old lists.new) }
         ensures slots { lists.new.slots ≡ lists.old.slots }
-        ensures serials { rows_of lists.new.serials ≡
-            and_row (is_full lists.old.serials) (rows_of lists.old.serials) (serial_heard self) }
+        ensures serials { items_of lists.new.serials ≡
+            with_item (is_full lists.old.serials) (items_of lists.old.serials) (serial_heard self) }
     {
-        let LoneSlot { stand, serial } = self;
+        let LoneSlot { progress, serial } = self;
         if lists.serials.push(serial).is_err() {
-            return Err(stand.stopped(Stop::Full));
+            return Err(progress.stopped(Stop::Full));
         }
-        stand.read(field, &serial)
+        progress.read(field, &serial)
     }
 
     // Ends the sweep here. Nothing is sent or listed.
     pub fn give_up(self) -> GivenUp
         ensures { result ≡ record { serial = serial_heard self; counts = counts_in (at_lone self) } }
     {
-        let LoneSlot { stand, serial } = self;
+        let LoneSlot { progress, serial } = self;
         GivenUp {
             serial,
-            counts: stand.counts,
+            counts: progress.counts,
         }
     }
 }
 
-impl Stand {
+impl Progress {
     // Splits a clash slot, by rows of coins that there are.
     fn split<F: Field>(
         self,
@@ -148,76 +148,76 @@ impl Stand {
         lists: &mut Lists<'_>,
     ) -> Result<Slot, Stopped>
         requires { 0 < length coins.now }
-        ensures rule { Leads F.Field coins.now
-            (at_slot in_clash self) (where_opened result) field.old field.new lists.old lists.new }
+        ensures rule { Continues F.Field coins.now
+            (at_slot in_clash self) (position_opened result) field.old field.new lists.old lists.new }
         ensures behind { BothBehind lists.old lists.new }
-        ensures counts { counts_in (where_opened result) ≡ counts_opened self.counts result }
-        ensures within { OnOk result (IsWithin self.budget (where_opened result)) }
-        ensures slots { rows_of lists.new.slots ≡ rows_opened command.Query (rows_of lists.old.slots) result }
+        ensures counts { counts_in (position_opened result) ≡ counts_opened self.counts result }
+        ensures within { OnOk result (IsWithin self.budget (position_opened result)) }
+        ensures slots { items_of lists.new.slots ≡ slots_opened command.Query (items_of lists.old.slots) result }
         ensures serials { lists.new.serials ≡ lists.old.serials }
     {
         if self.waiting == u8::MAX {
             return Err(self.stopped(Stop::Deep));
         }
         let row = coins_at(coins, self.next);
-        let stand = Stand {
+        let progress = Progress {
             waiting: self.waiting + 1,
             next: self.next % coins.len() + 1,
             ..self
         };
-        query(field, row, stand, lists)
+        query(field, row, progress, lists)
     }
 
     // Goes on to the next group that waits.
     fn scroll<F: Field>(self, field: &mut F, lists: &mut Lists<'_>) -> Result<Slot, Stopped>
         requires { 0 < self.waiting }
-        ensures rule { (coins : List ℕ) → Leads F.Field coins
-            (at_slot in_silence self) (where_opened result) field.old field.new lists.old lists.new }
+        ensures rule { (coins : List ℕ) → Continues F.Field coins
+            (at_slot in_silence self) (position_opened result) field.old field.new lists.old lists.new }
         ensures behind { BothBehind lists.old lists.new }
-        ensures counts { counts_in (where_opened result) ≡ counts_opened self.counts result }
-        ensures within { OnOk result (IsWithin self.budget (where_opened result)) }
-        ensures slots { rows_of lists.new.slots ≡ rows_opened command.Scroll (rows_of lists.old.slots) result }
+        ensures counts { counts_in (position_opened result) ≡ counts_opened self.counts result }
+        ensures within { OnOk result (IsWithin self.budget (position_opened result)) }
+        ensures slots { items_of lists.new.slots ≡ slots_opened command.Scroll (items_of lists.old.slots) result }
         ensures serials { lists.new.serials ≡ lists.old.serials }
     {
-        let stand = Stand {
+        let progress = Progress {
             waiting: self.waiting - 1,
             ..self
         };
-        scroll(field, stand, lists)
+        scroll(field, progress, lists)
     }
 
     // Sends READ until a reply is heard as lone.
     fn read<F: Field>(self, field: &mut F, serial: &[u8]) -> Result<SilentSlot, Stopped>
         requires { length serial.now ≡ 8 }
-        ensures rule { (coins : List ℕ) (lists : Lists) → Leads F.Field coins
-            (at_slot (in_reading serial.now) self) (where_read result) field.old field.new lists lists }
-        ensures counts { counts_in (where_read result) ≡
-            counts_read self.counts (counts_in (where_read result)).commands }
-        ensures within { OnOk result (IsWithin self.budget (where_read result)) }
-        ensures sent { IfOk result (λ s. self.counts.commands < s.stand.counts.commands) }
+        ensures rule { (coins : List ℕ) (lists : Lists) → Continues F.Field coins
+            (at_slot (in_reading serial.now) self) (position_read result) field.old field.new lists lists }
+        ensures counts { counts_in (position_read result) ≡
+            counts_read self.counts (counts_in (position_read result)).commands }
+        ensures within { OnOk result (IsWithin self.budget (position_read result)) }
+        ensures sent { IfOk result (λ s. self.counts.commands < s.progress.counts.commands) }
         ensures stop { IfErr result (λ s. stop_number s.stop ≡ 8) }
-        ensures unread { (coins : List ℕ) (lists : Lists) → IfErr result (λ s. Leads F.Field coins
+        ensures unread { (coins : List ℕ) (lists : Lists) → IfErr result (λ s. Continues F.Field coins
             (at_slot (in_reading serial.now) self)
-            (at_slot (in_reading serial.now) (standing self.budget self.waiting self.next s.counts))
+            (at_slot (in_reading serial.now) (progress_with self.budget self.waiting self.next s.counts))
             field.old field.new lists lists) }
     {
-        let mut stand = self;
+        let mut progress = self;
         for sent in self.counts.commands..self.budget {
             let heard = read(field, serial);
-            stand.counts.commands = sent + 1;
+            progress.counts.commands = sent + 1;
             if heard == Hearing::Lone {
-                return Ok(SilentSlot { stand });
+                return Ok(SilentSlot { progress });
             }
         }
-        Err(stand.stopped(Stop::Spent))
+        Err(progress.stopped(Stop::Spent))
     }
 
     // Sends the closing REPEAT, which opens no slot.
     fn close<F: Field>(self, field: &mut F) -> Result<Counts, Stopped>
         requires { self.waiting ≡ 0 }
-        ensures rule { (coins : List ℕ) (lists : Lists) → Leads F.Field coins
-            (at_slot in_silence self) (where_closed result) field.old field.new lists lists }
-        ensures counts { counts_in (where_closed result) ≡ counts_closed self.counts result }
+        ensures rule { (coins : List ℕ) (lists : Lists) → Continues F.Field coins
+            (at_slot in_silence self) (position_closed result) field.old field.new lists lists }
+        ensures counts { counts_in (position_closed result) ≡ counts_closed self.counts result }
     {
         if self.is_spent() {
             return Err(self.stopped(Stop::Spent));

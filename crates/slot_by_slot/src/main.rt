@@ -4,11 +4,11 @@
 use bench::bench::Bench;
 use field::field::Field;
 use record::{MEMORY_LENGTH, Serial, Tag};
-use rows::list::Rows;
+use slice_vec::vec::SliceVec;
 use slot::counts::Counts;
-use slot::kinds::{Left, Slot, Unsplit};
+use slot::kinds::{Continuation, Slot, Unsplit};
 use slot::lists::Lists;
-use slot::row::BLANK;
+use slot::listed::BLANK;
 use slot::working::open;
 use std::io;
 use std::process::ExitCode;
@@ -29,11 +29,11 @@ fn new_tag(number: u8) -> Tag {
 }
 
 // Ends a slot, each kind in its way, and opens the next.
-fn go_on<F: Field>(slot: Slot, field: &mut F, lists: &mut Lists<'_>) -> Result<Left, Unsplit> {
+fn work_slot<F: Field>(slot: Slot, field: &mut F, lists: &mut Lists<'_>) -> Result<Continuation, Unsplit> {
     match slot {
         Slot::Silent(slot) => Ok(slot.leave(field, lists)?),
         Slot::Lone(slot) => Ok(slot.read(field, lists)?.leave(field, lists)?),
-        Slot::Clash(slot) => Ok(Left::Next(slot.split(field, &COINS, lists)?)),
+        Slot::Clash(slot) => Ok(Continuation::Next(slot.split(field, &COINS, lists)?)),
     }
 }
 
@@ -49,9 +49,9 @@ fn give_up(slot: Slot) -> Option<Serial> {
 fn work<F: Field>(field: &mut F, lists: &mut Lists<'_>) -> Result<Option<Counts>, Unsplit> {
     let mut slot = open(field, 100, lists)?;
     for _ in 0..SLOTS {
-        slot = match go_on(slot, field, lists)? {
-            Left::Next(next) => next,
-            Left::Whole(counts) => return Ok(Some(counts)),
+        slot = match work_slot(slot, field, lists)? {
+            Continuation::Next(next) => next,
+            Continuation::Whole(counts) => return Ok(Some(counts)),
         };
     }
     let _ = give_up(slot);
@@ -77,8 +77,8 @@ fn run(rt: &HostRuntime) -> io::Result<()> {
     let mut table = [new_tag(1), new_tag(2)];
     let (mut slots, mut serials) = ([BLANK; SLOTS], [[0; 8]; 2]);
     let mut lists = Lists {
-        slots: Rows::new(&mut slots),
-        serials: Rows::new(&mut serials),
+        slots: SliceVec::new(&mut slots),
+        serials: SliceVec::new(&mut serials),
     };
     let mut bench = Bench::new();
     let _ = bench.set_table(&mut table);

@@ -1,7 +1,7 @@
 // What is sent.
 use protocol::command::Command;
-use spelling::sample::numbered_serial;
-use spelling::sent::framed;
+use notation::sample::numbered_serial;
+use notation::encoding::make_frame;
 use std::alloc::Global;
 
 #[derive(Clone, Copy)]
@@ -16,7 +16,7 @@ impl Load {
     // The frames, each of which has its turn.
     pub(crate) fn frames(self, heap: Global) -> anyhow::Result<Vec<Vec<u8>>> {
         match self {
-            Load::Query => Ok(vec![in heap; framed(heap, Command::Query.code(), &[])?]?),
+            Load::Query => Ok(vec![in heap; make_frame(heap, Command::Query.code(), &[])?]?),
             Load::Read => (0..64).map(|number| read(heap, number)).try_collect(heap),
         }
     }
@@ -26,5 +26,5 @@ impl Load {
 fn read(heap: Global, number: u8) -> anyhow::Result<Vec<u8>> {
     let mut parameters = [0; 9];
     parameters[..8].copy_from_slice(&numbered_serial(number));
-    Ok(framed(heap, Command::Read.code(), &parameters)?)
+    Ok(make_frame(heap, Command::Read.code(), &parameters)?)
 }

@@ -4,11 +4,11 @@ use crate::tally::Tally;
 use anyhow::Context;
 use bench::bench::Bench;
 use field::field::{Field, ROOM};
-use layers::pair::Pair;
+use composite_fields::pair::Pair;
 use protocol::command::{Command, OWN};
 use record::Tag;
-use spelling::sample::numbered_tag;
-use spelling::sent::framed;
+use notation::sample::numbered_tag;
+use notation::encoding::make_frame;
 use std::alloc::Global;
 use std::array;
 
@@ -52,7 +52,7 @@ fn send_all<F: Field>(
     sends: usize,
 ) -> anyhow::Result<Tally> {
     let mut buffer = [0; ROOM];
-    let select = framed(heap, Command::Select.code(), &OWN)?;
+    let select = make_frame(heap, Command::Select.code(), &OWN)?;
     field.send(select.as_slice(), 0, &mut buffer)?;
     let frames = load.frames(heap)?;
     let mut tally = Tally::default();

@@ -4,11 +4,11 @@ use crate::total::Total;
 use anyhow::Context;
 use bench::bench::Bench;
 use record::Serial;
-use rows::list::Rows;
+use slice_vec::vec::SliceVec;
 use slot::ending::Report;
 use slot::lists::Lists;
-use slot::row::{BLANK, SlotRow};
-use spelling::sample::numbered_tag;
+use slot::listed::{BLANK, ListedSlot};
+use notation::sample::numbered_tag;
 use std::array;
 use sweep::sweep;
 
@@ -23,7 +23,7 @@ const SLOTS: usize = 1000;
 // What all sweeps fill anew.
 #[derive(Drop)]
 struct Storage {
-    slots: [SlotRow; SLOTS],
+    slots: [ListedSlot; SLOTS],
     serials: [Serial; 64],
 }
 
@@ -36,8 +36,8 @@ fn sweep_new(coins: &[u64], storage: &mut Storage) -> anyhow::Result<Report> {
         .ok()
         .context("too long a table")?;
     let mut lists = Lists {
-        slots: Rows::new(&mut storage.slots),
-        serials: Rows::new(&mut storage.serials),
+        slots: SliceVec::new(&mut storage.slots),
+        serials: SliceVec::new(&mut storage.serials),
     };
     Ok(sweep(&mut bench, coins, BUDGET, &mut lists)?)
 }

@@ -6,25 +6,25 @@ use Rattle.protocol.specs.declared.command.Command.{Command}
 use Rattle.field.specs.declared.hearing.Hearing.{Hearing}
 use Rattle.field.specs.declared.hearing.Hearing.TheVariants.{Silence, Lone, Clash}
 use Rattle.field.specs.Airs.{Air, hearing_number}
-use Rattle.slot.specs.declared.row.SlotRow.{SlotRow}
-use Rattle.slot.specs.Rules.{Setting, Phase, fresh, in_silence, in_lone, in_clash, in_reading, Play, Deed, beginning, ended, opens, reads, opened_by, read_by, done, went, played}
+use Rattle.slot.specs.declared.listed.ListedSlot.{ListedSlot}
+use Rattle.slot.specs.Rules.{Setting, Phase, fresh, in_silence, in_lone, in_clash, in_reading, SweepState, Action, beginning, ended, opens, reads, opened_by, read_by, after_action, advanced, run_by}
 use Rattle.sweep.specs.Tallies.{heard_as, Balanced, EndsBalanced}
 use Rattle.sweep.proofs.Deeds.{by_deed, holds_played}
 
 -- One slot more.
-pub one_more : (x : Hearing) (slots : List SlotRow) (row : SlotRow)
+pub one_more : (x : Hearing) (slots : List ListedSlot) (row : ListedSlot)
     → heard_as x (slots ++ row ∷ []) ≡ heard_as x slots + cond (eqb (hearing_number row.hearing) (hearing_number x)) 1 0
 one_more x slots row = sum_by_push (λ r. cond (eqb (hearing_number r.hearing) (hearing_number x)) 1 0) slots row
 
 -- The slots that took a group away, and the balance, to which a phase may add on either side.
-abbrev settled : Play → ℕ
+abbrev settled : SweepState → ℕ
 settled p = heard_as Lone p.slots + heard_as Silence p.slots
 
-record Balance (before after : ℕ) (p : Play) : Type 0 where
+record Balance (before after : ℕ) (p : SweepState) : Type 0 where
   slots : p.waiting + settled p + before ≡ heard_as Clash p.slots + after
   commands : p.commands ≡ length p.slots + p.reads
 
-abbrev Even : Phase → Play → Type 0
+abbrev Even : Phase → SweepState → Type 0
 Even fresh p = (p.waiting ≡ 0) × Balance 0 0 p
 Even in_silence p = Balance 0 1 p
 Even (in_lone serial) p = Balance 0 1 p
@@ -34,37 +34,37 @@ Even (ended zero) p = Balanced p
 Even (ended (suc n)) p = Unit {0}
 
 -- A slot that opens, with the balance of the groups as it is then to be.
-even_open : (h : Hearing) (c : Command) (frame : List ℕ) (row g next : ℕ) (p : Play) (air : Air) → g + settled p ≡ heard_as Clash p.slots
-    → p.commands ≡ length p.slots + p.reads → Even (opened_by h air) (done (opens c frame row g next) h p)
+even_open : (h : Hearing) (c : Command) (frame : List ℕ) (row g next : ℕ) (p : SweepState) (air : Air) → g + settled p ≡ heard_as Clash p.slots
+    → p.commands ≡ length p.slots + p.reads → Even (opened_by h air) (after_action (opens c frame row g next) h p)
 even_open Silence c frame row g next p air a b =
-    let slot : SlotRow = record { command = c; hearing = Silence; waiting = g } in
+    let slot : ListedSlot = record { command = c; hearing = Silence; waiting = g } in
     record {
       slots = omega (arith, one_more Lone p.slots slot, one_more Silence p.slots slot, one_more Clash p.slots slot);
       commands = omega (arith, length-append p.slots (slot ∷ []));
     }
 even_open Lone c frame row g next p air a b =
-    let slot : SlotRow = record { command = c; hearing = Lone; waiting = g } in
+    let slot : ListedSlot = record { command = c; hearing = Lone; waiting = g } in
     record {
       slots = omega (arith, one_more Lone p.slots slot, one_more Silence p.slots slot, one_more Clash p.slots slot);
       commands = omega (arith, length-append p.slots (slot ∷ []));
     }
 even_open Clash c frame row g next p air a b =
-    let slot : SlotRow = record { command = c; hearing = Clash; waiting = g } in
+    let slot : ListedSlot = record { command = c; hearing = Clash; waiting = g } in
     record {
       slots = omega (arith, one_more Lone p.slots slot, one_more Silence p.slots slot, one_more Clash p.slots slot);
       commands = omega (arith, length-append p.slots (slot ∷ []));
     }
 
-even_read : (h : Hearing) (serial : List ℕ) (p : Play) → Balance 0 1 p → Even (read_by h serial) (done (reads serial) h p)
+even_read : (h : Hearing) (serial : List ℕ) (p : SweepState) → Balance 0 1 p → Even (read_by h serial) (after_action (reads serial) h p)
 even_read Silence serial p b = record { slots = b.slots; commands = omega (arith, b.commands) }
 even_read Lone serial p b = record { slots = b.slots; commands = omega (arith, b.commands) }
 even_read Clash serial p b = record { slots = b.slots; commands = omega (arith, b.commands) }
 
-abbrev StaysEven : Hearing → Play → Phase → Deed → Type 0
-StaysEven h p phase deed = Even phase p → Even p.phase p → Even (done deed h p).phase (done deed h p)
+abbrev StaysEven : Hearing → SweepState → Phase → Action → Type 0
+StaysEven h p phase deed = Even phase p → Even p.phase p → Even (after_action deed h p).phase (after_action deed h p)
 
-even_on : (set : Setting) (h : Hearing) (p : Play) → Even p.phase p → Even (went set h p).phase (went set h p)
-unfolding went
+even_on : (set : Setting) (h : Hearing) (p : SweepState) → Even p.phase p → Even (advanced set h p).phase (advanced set h p)
+unfolding advanced
 even_on set h p even =
     by_deed set p (StaysEven h p)
     (record {
@@ -82,6 +82,6 @@ even_on set h p even =
 
 pub ends_balanced : EndsBalanced
 ends_balanced set hs tags e =
-    let p : Play = played set hs (beginning tags) in
+    let p : Play = run_by set hs (beginning tags) in
     let first : Balance 0 0 (beginning tags) = record { slots = refl; commands = refl } in
     subst (λ (phase : Phase). Even phase p) e (holds_played set (λ q. Even q.phase q) (even_on set) hs (beginning tags) (refl, first))

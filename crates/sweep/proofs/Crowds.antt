@@ -8,13 +8,13 @@ use Rattle.crc.specs.Check.{sealed}
 use Rattle.frame.specs.Openings.{Opening, opening}
 use Rattle.record.specs.declared.Tag.{Tag}
 use Rattle.record.specs.Records.{serial_of}
-use Rattle.tag.specs.Orders.{order}
-use Rattle.tag.specs.Steps.{is_meant, stepped}
-use Rattle.reply.specs.Replies.{sounding}
-use Rattle.field.specs.Airs.{Air, silent, one, many, mixed, voice}
+use Rattle.tag.specs.Orders.{order_in}
+use Rattle.tag.specs.Steps.{has_serial, stepped}
+use Rattle.reply.specs.Replies.{sealed_reply}
+use Rattle.field.specs.Airs.{Air, silent, one, many, mixed, air_of_one}
 use Rattle.field.specs.Sends.{first_coin, stepped_all, on_air}
-use Rattle.slot.specs.Commands.{again}
-use Rattle.sweep.specs.Fates.{times, fate_of}
+use Rattle.slot.specs.Commands.{repeat}
+use Rattle.sweep.specs.Effects.{times, tag_after_sweep}
 use Rattle.sweep.proofs.Tags.{is_active, has_turn, is_left_by, outcome, Fit, Readable, Takes, Opens, not_active, readable, serial_of_outcome, serial_of_fate, again_each}
 
 -- How many of the tags that some test picks have a serial number.
@@ -68,7 +68,7 @@ tally-le test serial (t ∷ ts) =
 
 -- A frame, whose order is known to do something to each tag.
 module _ (frame : Opening) (Before After : Tag → Type 0) (goal : Tag → Tag) (chosen : Tag → Bool)
-    (each : Takes (order frame) Before After goal chosen) where
+    (each : Takes (order_in frame) Before After goal chosen) where
   pub outcomes_after : (row : ℕ) (tags : List Tag) → AllByRecursion Before tags → map outcome (stepped_all frame row tags) ≡ map goal tags
   unfolding stepped_all
   outcomes_after row [] h = refl
@@ -94,18 +94,18 @@ module _ (frame : Opening) (Before After : Tag → Type 0) (goal : Tag → Tag) 
 
 -- The replies to a frame that opens a slot.
 sounded : (b : Bool) (t : Tag) (rest : List Tag)
-    → mixed (voice (sounding (cond b (Some (serial_of t)) None))) (voices (map serial_of rest)) ≡ voices (map serial_of (cond b (t ∷ rest) rest))
+    → mixed (air_of_one (sealed_reply (cond b (Some (serial_of t)) None))) (voices (map serial_of rest)) ≡ voices (map serial_of (cond b (t ∷ rest) rest))
 sounded true t [] = refl
 sounded true t (u ∷ []) = refl
 sounded true t (u ∷ v ∷ rest) = refl
 sounded false t rest = refl
 
-pub air_after : (frame : Opening) → Opens (order frame) → (row : ℕ) (tags : List Tag) → on_air frame row tags ≡ voices (turns (stepped_all frame row tags))
+pub air_after : (frame : Opening) → Opens (order_in frame) → (row : ℕ) (tags : List Tag) → on_air frame row tags ≡ voices (turns (stepped_all frame row tags))
 unfolding stepped_all on_air
 air_after frame opens row [] = refl
 air_after frame opens row (t ∷ ts) =
     let u : Tag = stepped frame (first_coin row) t in
-    ap₂ (λ (x : Option (List ℕ)) (a : Air). mixed (voice (sounding x)) a) (opens (first_coin row) t) (air_after frame opens (row / 2) ts)
+    ap₂ (λ (x : Option (List ℕ)) (a : Air). mixed (air_of_one (sealed_reply x)) a) (opens (first_coin row) t) (air_after frame opens (row / 2) ts)
     ∙ sounded (has_turn u) u (filter has_turn (stepped_all frame (row / 2) ts))
 
 -- What holds of each tag.
@@ -139,7 +139,7 @@ no_turns (t ∷ ts) h =
 
 -- The closing REPEAT.
 pub closed : (row : ℕ) (tags : List Tag) → AllByRecursion (Fit 0) tags → AllByRecursion (λ t. has_turn t ≡ false) tags
-    → stepped_all (opening again) row tags ≡ map outcome tags
+    → stepped_all (opening repeat) row tags ≡ map outcome tags
 unfolding stepped_all
 closed row [] fits h = refl
 closed row (t ∷ ts) fits h =
@@ -154,7 +154,7 @@ none_active serial (t ∷ ts) fits h =
 
 -- One tag has its turn: the one that has its serial number, where none is there twice.
 abbrev pub IsLone : List ℕ → Tag → Type 0
-IsLone serial t = has_turn t ≡ is_meant t serial
+IsLone serial t = has_turn t ≡ has_serial t serial
 
 missed : (b : Bool) → cond b 1 0 ≤ 0 → b ≡ false
 missed true h = absurd (omega arith)
@@ -174,7 +174,7 @@ lone_rest serial [] e h = tt
 lone_rest serial (t ∷ ts) e h =
     let parts = none_here (has_turn t) t (filter has_turn ts) e in
     let count = times-cons serial (serial_of t) (map serial_of ts) in
-    (parts.0 ∙ sym (missed (is_meant t serial) (omega arith)), lone_rest serial ts parts.1 (omega arith))
+    (parts.0 ∙ sym (missed (has_serial t serial) (omega arith)), lone_rest serial ts parts.1 (omega arith))
 
 lone_head : (b : Bool) (serial : List ℕ) (t : Tag) (ts : List Tag) → has_turn t ≡ b
     → map serial_of (cond b (t ∷ filter has_turn ts) (filter has_turn ts)) ≡ serial ∷ [] → times serial (map serial_of (t ∷ ts)) ≤ 1
@@ -182,7 +182,7 @@ lone_head : (b : Bool) (serial : List ℕ) (t : Tag) (ts : List Tag) → has_tur
 lone_head true serial t ts turn e h rest =
     let same : serial_of t ≡ serial = cc in
     let none : turns ts ≡ [] = cc in
-    let meant : is_meant t serial ≡ true = (bytes_eq-Decides (serial_of t) serial).1 same in
+    let meant : has_serial t serial ≡ true = (bytes_eq-Decides (serial_of t) serial).1 same in
     let one_more : hit serial (serial_of t) ≡ 1 = ap (λ (x : Bool). cond x 1 0) meant in
     let count = times-cons serial (serial_of t) (map serial_of ts) in
     (turn ∙ sym meant, lone_rest serial ts none (omega arith))
@@ -191,7 +191,7 @@ lone_head false serial t ts turn e h rest =
     let some : hit serial serial ≡ 1 = hit_self serial in
     let fewer : times serial (turns ts) ≤ times serial (map serial_of ts) = tally-le has_turn serial ts in
     let count = times-cons serial (serial_of t) (map serial_of ts) in
-    (turn ∙ sym (missed (is_meant t serial) (omega arith)), rest e (omega arith))
+    (turn ∙ sym (missed (has_serial t serial) (omega arith)), rest e (omega arith))
 
 pub lone : (serial : List ℕ) (tags : List Tag) → turns tags ≡ serial ∷ [] → times serial (map serial_of tags) ≤ 1 → AllByRecursion (IsLone serial) tags
 lone serial [] e h = tt
@@ -226,11 +226,11 @@ serials_of_outcomes : (tags : List Tag) → map serial_of (map outcome tags) ≡
 serials_of_outcomes [] = refl
 serials_of_outcomes (t ∷ ts) = ap₂ (λ (s : List ℕ) (rest : List (List ℕ)). s ∷ rest) (serial_of_outcome t) (serials_of_outcomes ts)
 
-serials_of_fates : (tags : List Tag) → map serial_of (map fate_of tags) ≡ map serial_of tags
+serials_of_fates : (tags : List Tag) → map serial_of (map tag_after_sweep tags) ≡ map serial_of tags
 serials_of_fates [] = refl
 serials_of_fates (t ∷ ts) = ap₂ (λ (s : List ℕ) (rest : List (List ℕ)). s ∷ rest) (serial_of_fate t) (serials_of_fates ts)
 
-pub same_serials : (tags before : List Tag) → map outcome tags ≡ map fate_of before → map serial_of tags ≡ map serial_of before
+pub same_serials : (tags before : List Tag) → map outcome tags ≡ map tag_after_sweep before → map serial_of tags ≡ map serial_of before
 same_serials tags before e = sym (serials_of_outcomes tags) ∙ ap (map serial_of) e ∙ serials_of_fates before
 
 abbrev pub AreSized : List (List ℕ) → Type 0

@@ -1,13 +1,13 @@
--- When a reader does each of its deeds, and what stays true from deed to deed. Assumes nothing.
+-- When a reader does each of its actions, and what stays true from action to action. Assumes nothing.
 use Rattle.std.proofs.Common.{◌≡◌, ℕ, zero, suc, ◌+◌, ◌-◌, ◌<◌, ◌≤◌, leb, eqb, ◌⊎◌, List, [], ◌∷◌, length, subst, inl, inr, arith}
 use Rattle.std.proofs.lemmas.Bool.{cond_both, leb-true, leb-false, eqb-true, eqb-false}
 use Rattle.protocol.specs.declared.command.Command.TheVariants.{Select, Query, Scroll}
 use Rattle.field.specs.declared.hearing.Hearing.{Hearing}
 use Rattle.slot.specs.Commands.{select, query, scroll}
-use Rattle.slot.specs.Rules.{Setting, Phase, fresh, in_silence, in_lone, in_clash, in_reading, ended, Play, Deed, stops, opens, lists, reads, closes, rests, commanding, opening_slot, coins_at, place_behind, deed_in, went, plain, played, replayed}
+use Rattle.slot.specs.Rules.{Setting, Phase, fresh, in_silence, in_lone, in_clash, in_reading, ended, SweepState, Action, stops, opens, lists, reads, closes, rests, budget_checked, room_checked, coins_at, place_behind, action_in, advanced, next_plain_hearing, run_by, replayed}
 
--- What is to be shown of a play for a property of every phase with its deed.
-pub record EachDeed (set : Setting) (p : Play) (P : Phase → Deed → Type 0) : Type 0 where
+-- What is to be shown of a run for a property of every phase with its action.
+pub record EachDeed (set : Setting) (p : SweepState) (P : Phase → Action → Type 0) : Type 0 where
   pub spent : (phase : Phase) → set.budget ≤ p.commands → P phase (stops 8)
   pub full : (phase : Phase) → (set.slot_room ≤ length p.slots) ⊎ (set.serial_room ≤ length p.serials) → P phase (stops 9)
   pub crowded : P in_clash (stops 7)
@@ -21,20 +21,20 @@ pub record EachDeed (set : Setting) (p : Play) (P : Phase → Deed → Type 0) :
   pub closing : p.waiting ≡ 0 → p.commands < set.budget → P in_silence closes
   pub resting : (n : ℕ) → P (ended n) rests
 
-within_budget : (set : Setting) (p : Play) (P : Deed → Type 0) (deed : Deed) → (set.budget ≤ p.commands → P (stops 8))
-    → (p.commands < set.budget → P deed) → P (commanding set p deed)
+within_budget : (set : Setting) (p : SweepState) (P : Action → Type 0) (deed : Action) → (set.budget ≤ p.commands → P (stops 8))
+    → (p.commands < set.budget → P deed) → P (budget_checked set p deed)
 within_budget set p P deed spent on =
     cond_both (leb set.budget p.commands) (stops 8) deed P (λ e. spent (leb-true set.budget p.commands e)) (λ e. on (leb-false set.budget p.commands e))
 
-with_room : (set : Setting) (p : Play) (P : Deed → Type 0) (deed : Deed) → (set.budget ≤ p.commands → P (stops 8))
+with_room : (set : Setting) (p : SweepState) (P : Action → Type 0) (deed : Action) → (set.budget ≤ p.commands → P (stops 8))
     → (set.slot_room ≤ length p.slots → P (stops 9)) → (p.commands < set.budget → length p.slots < set.slot_room → P deed)
-    → P (opening_slot set p deed)
+    → P (room_checked set p deed)
 with_room set p P deed spent full on =
     within_budget set p P _ spent
     (λ h. cond_both (leb set.slot_room (length p.slots)) (stops 9) deed P (λ e. full (leb-true set.slot_room (length p.slots) e))
     (λ e. on h (leb-false set.slot_room (length p.slots) e)))
 
-pub by_deed : (set : Setting) (p : Play) (P : Phase → Deed → Type 0) → EachDeed set p P → (phase : Phase) → P phase (deed_in set p phase)
+pub by_deed : (set : Setting) (p : SweepState) (P : Phase → Action → Type 0) → EachDeed set p P → (phase : Phase) → P phase (action_in set p phase)
 by_deed set p P each fresh = with_room set p (P fresh) _ (each.spent fresh) (λ h. each.full fresh (inl h)) each.selecting
 by_deed set p P each in_silence =
     cond_both (eqb p.waiting 0) _ _ (P in_silence)
@@ -51,21 +51,21 @@ by_deed set p P each (in_reading serial) =
     within_budget set p (P (in_reading serial)) (reads serial) (each.spent (in_reading serial)) (each.reading serial)
 by_deed set p P each (ended n) = each.resting n
 
--- What every deed keeps holds of a whole play.
-pub holds_played : (set : Setting) (P : Play → Type 0) → ((h : Hearing) (p : Play) → P p → P (went set h p)) → (hs : List Hearing) (p : Play) → P p
-    → P (played set hs p)
-unfolding played
+-- What every action keeps holds of a whole run.
+pub holds_played : (set : Setting) (P : SweepState → Type 0) → ((h : Hearing) (p : SweepState) → P p → P (advanced set h p)) → (hs : List Hearing) (p : SweepState) → P p
+    → P (run_by set hs p)
+unfolding run_by
 holds_played set P step [] p h = h
-holds_played set P step (x ∷ xs) p h = holds_played set P step xs (went set x p) (step x p h)
+holds_played set P step (x ∷ xs) p h = holds_played set P step xs (advanced set x p) (step x p h)
 
--- The same of a replay, with the deeds counted.
-pub holds_replayed : (set : Setting) (P : ℕ → Play → Type 0) → ((m : ℕ) (p : Play) → P m p → P (m + 1) (went set (plain set p) p)) → (n m : ℕ) (p : Play)
+-- The same of a replay, with the actions counted.
+pub holds_replayed : (set : Setting) (P : ℕ → SweepState → Type 0) → ((m : ℕ) (p : SweepState) → P m p → P (m + 1) (advanced set (next_plain_hearing set p) p)) → (n m : ℕ) (p : SweepState)
     → P m p → P (m + n) (replayed set n p)
 unfolding replayed
 holds_replayed set P step zero m p h =
     let e : m ≡ m + 0 = omega arith in
     subst (λ (k : ℕ). P k p) e h
 holds_replayed set P step (suc n) m p h =
-    let q : Play = went set (plain set p) p in
+    let q : Play = advanced set (next_plain_hearing set p) p in
     let e : m + 1 + n ≡ m + suc n = omega arith in
     subst (λ (k : ℕ). P k (replayed set n q)) e (holds_replayed set P step n (m + 1) q (step m p h))

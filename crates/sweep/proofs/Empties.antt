@@ -1,4 +1,4 @@
--- A sweep of no tags, deed by deed. Assumes nothing.
+-- A sweep of no tags, action by action. Assumes nothing.
 use Rattle.std.proofs.Common.{◌≡◌, ℕ, List, [], ◌∷◌, sym, refl, ap, ◌∙◌, subst, arith}
 use Rattle.protocol.specs.declared.command.Command.TheVariants.{Select}
 use Rattle.field.specs.declared.hearing.Hearing.{Hearing}
@@ -7,12 +7,12 @@ use Rattle.field.specs.Sends.{stepped_all, on_air}
 use Rattle.slot.specs.declared.ending.End.{End}
 use Rattle.slot.specs.declared.ending.End.TheVariants.{Whole, Stopped}
 use Rattle.slot.specs.declared.ending.Stop.TheVariants.{Deep, Spent, Full}
-use Rattle.slot.specs.Countings.{end_number}
-use Rattle.slot.specs.Rules.{Phase, fresh, in_silence, in_lone, in_clash, in_reading, ended, Play, beginning, went, may_hear, played, Heard}
+use Rattle.slot.specs.Counts.{end_number}
+use Rattle.slot.specs.Rules.{Phase, fresh, in_silence, in_lone, in_clash, in_reading, ended, SweepState, beginning, advanced, MayHearNext, run_by, MayHearAll}
 use Rattle.sweep.specs.Cases.{narrow, EmptySweeps}
 use Rattle.sweep.specs.Whole.{Reported}
 
-abbrev last : Play
+abbrev last : SweepState
 last =
     record {
       phase = ended 0;
@@ -46,35 +46,35 @@ unfinished : {P : Type 0} (p q : Phase) (k : ℕ) → p ≡ q → is_over q ≡ 
 unfinished p q k e o f = absurd (let z : ◌≡◌ {A = ℕ} 0 1 = sym o ∙ ap is_over (sym e) ∙ ap is_over f in omega arith)
 
 module _ (row room : ℕ) where
-  stays : (hs : List Hearing) → played (narrow row room) hs last ≡ last
-  unfolding played went
+  stays : (hs : List Hearing) → run_by (narrow row room) hs last ≡ last
+  unfolding run_by advanced
   stays [] = refl
   stays (h ∷ hs) = stays hs
 
-  closed : (h : Hearing) → went (narrow row room) h (went (narrow row room) Silence (beginning [])) ≡ last
-  unfolding went on_air stepped_all
+  closed : (h : Hearing) → advanced (narrow row room) h (advanced (narrow row room) Silence (beginning [])) ≡ last
+  unfolding advanced on_air stepped_all
   closed h = refl
 
-  opened : (went (narrow row room) Silence (beginning [])).phase ≡ in_silence
-  unfolding went on_air
+  opened : (advanced (narrow row room) Silence (beginning [])).phase ≡ in_silence
+  unfolding advanced on_air
   opened = refl
 
-  only_silence : (h : Hearing) → may_hear (narrow row room) (beginning []) h → h ≡ Silence
-  unfolding may_hear on_air
+  only_silence : (h : Hearing) → MayHearNext (narrow row room) (beginning []) h → h ≡ Silence
+  unfolding MayHearNext on_air
   only_silence h e = e
 
-  second : (hs : List Hearing) (k : ℕ) → (played (narrow row room) hs (went (narrow row room) Silence (beginning []))).phase ≡ ended k → played (narrow row room) hs (went (narrow row room) Silence (beginning [])) ≡ last
-  unfolding played
+  second : (hs : List Hearing) (k : ℕ) → (run_by (narrow row room) hs (advanced (narrow row room) Silence (beginning []))).phase ≡ ended k → run_by (narrow row room) hs (advanced (narrow row room) Silence (beginning [])) ≡ last
+  unfolding run_by
   second [] k e = unfinished _ in_silence k opened refl e
-  second (h ∷ hs) k e = ap (played (narrow row room) hs) (closed h) ∙ stays hs
+  second (h ∷ hs) k e = ap (run_by (narrow row room) hs) (closed h) ∙ stays hs
 
-  first : (hs : List Hearing) (k : ℕ) → Heard (narrow row room) hs (beginning []) → (played (narrow row room) hs (beginning [])).phase ≡ ended k → played (narrow row room) hs (beginning []) ≡ last
-  unfolding played Heard
+  first : (hs : List Hearing) (k : ℕ) → MayHearAll (narrow row room) hs (beginning []) → (run_by (narrow row room) hs (beginning [])).phase ≡ ended k → run_by (narrow row room) hs (beginning []) ≡ last
+  unfolding run_by MayHearAll
   first [] k h e = unfinished _ fresh k refl refl e
   first (x ∷ hs) k h e =
       let heard : x ≡ Silence = only_silence x h.0 in
-      ap (λ (y : Hearing). played (narrow row room) hs (went (narrow row room) y (beginning []))) heard
-      ∙ second hs k (ap (λ (y : Hearing). (played (narrow row room) hs (went (narrow row room) y (beginning []))).phase) (sym heard) ∙ e)
+      ap (λ (y : Hearing). run_by (narrow row room) hs (advanced (narrow row room) y (beginning []))) heard
+      ∙ second hs k (ap (λ (y : Hearing). (run_by (narrow row room) hs (advanced (narrow row room) y (beginning []))).phase) (sym heard) ∙ e)
 
 whole_end : (e : End) → end_number e ≡ 0 → e ≡ Whole
 whole_end Whole z = refl

@@ -7,13 +7,13 @@ use Rattle.field.specs.declared.hearing.Hearing.{Hearing}
 use Rattle.field.specs.declared.hearing.Hearing.TheVariants.{Silence, Lone, Clash}
 use Rattle.field.specs.Airs.{Air}
 use Rattle.field.specs.Sends.{Sized}
-use Rattle.slot.specs.Rules.{Setting, Phase, fresh, in_silence, in_lone, in_clash, in_reading, ended, Play, beginning, Deed, opened_by, done, went, played, Heard}
-use Rattle.sweep.specs.Fates.{is_due, times}
+use Rattle.slot.specs.Rules.{Setting, Phase, fresh, in_silence, in_lone, in_clash, in_reading, ended, SweepState, beginning, Action, opened_by, after_action, advanced, run_by, MayHearAll}
+use Rattle.sweep.specs.Effects.{is_due, times}
 use Rattle.sweep.proofs.Crowds.{none_picked}
 use Rattle.sweep.proofs.Deeds.{by_deed}
 use Rattle.sweep.proofs.Plays.{Clears, over}
 
-abbrev Unlisted : Phase → Play → Type 0
+abbrev Unlisted : Phase → SweepState → Type 0
 Unlisted fresh p = p.serials ≡ []
 Unlisted in_silence p = p.serials ≡ []
 Unlisted (in_lone serial) p = ⊥
@@ -21,7 +21,7 @@ Unlisted in_clash p = p.serials ≡ []
 Unlisted (in_reading serial) p = ⊥
 Unlisted (ended n) p = p.serials ≡ []
 
-no_serials : (phase : Phase) (p : Play) → Unlisted phase p → p.serials ≡ []
+no_serials : (phase : Phase) (p : SweepState) → Unlisted phase p → p.serials ≡ []
 no_serials fresh p e = e
 no_serials in_silence p e = e
 no_serials (in_lone serial) p e = absurd e
@@ -29,16 +29,16 @@ no_serials in_clash p e = e
 no_serials (in_reading serial) p e = absurd e
 no_serials (ended n) p e = e
 
-unlisted_open : (h : Hearing) (air : Air) (p : Play) → h ≢ Lone → p.serials ≡ [] → Unlisted (opened_by h air) p
+unlisted_open : (h : Hearing) (air : Air) (p : SweepState) → h ≢ Lone → p.serials ≡ [] → Unlisted (opened_by h air) p
 unlisted_open Silence air p other e = e
 unlisted_open Lone air p other e = absurd (other refl)
 unlisted_open Clash air p other e = e
 
-abbrev StaysUnlisted : Hearing → Play → Phase → Deed → Type 0
-StaysUnlisted h p phase deed = Unlisted phase p → Unlisted p.phase p → Unlisted (done deed h p).phase (done deed h p)
+abbrev StaysUnlisted : Hearing → SweepState → Phase → Action → Type 0
+StaysUnlisted h p phase deed = Unlisted phase p → Unlisted p.phase p → Unlisted (after_action deed h p).phase (after_action deed h p)
 
-unlisted_on : (set : Setting) (h : Hearing) (p : Play) → h ≢ Lone → Unlisted p.phase p → Unlisted (went set h p).phase (went set h p)
-unfolding went
+unlisted_on : (set : Setting) (h : Hearing) (p : SweepState) → h ≢ Lone → Unlisted p.phase p → Unlisted (advanced set h p).phase (advanced set h p)
+unfolding advanced
 unlisted_on set h p other unlisted =
     by_deed set p (StaysUnlisted h p)
     (record {
@@ -54,20 +54,20 @@ unlisted_on set h p other unlisted =
       resting = λ n e now. now;
     }) p.phase unlisted unlisted
 
-unlisted : (set : Setting) (hs : List Hearing) (p : Play) → AllByRecursion (λ h. h ≢ Lone) hs → Unlisted p.phase p
-    → Unlisted (played set hs p).phase (played set hs p)
-unfolding played
+unlisted : (set : Setting) (hs : List Hearing) (p : SweepState) → AllByRecursion (λ h. h ≢ Lone) hs → Unlisted p.phase p
+    → Unlisted (run_by set hs p).phase (run_by set hs p)
+unfolding run_by
 unlisted set [] p others e = e
-unlisted set (h ∷ hs) p others e = unlisted set hs (went set h p) others.1 (unlisted_on set h p others.0 e)
+unlisted set (h ∷ hs) p others e = unlisted set hs (advanced set h p) others.1 (unlisted_on set h p others.0 e)
 
 all_clear : (tags : List Tag) (hs : List Hearing) → AllByRecursion (λ h. h ≢ Lone) hs → AllByRecursion (Clears tags) hs
 all_clear tags [] others = tt
 all_clear tags (h ∷ hs) others = ((λ lone. absurd (others.0 lone)), all_clear tags hs others.1)
 
-pub none_due : (set : Setting) (hs : List Hearing) (tags : List Tag) → Sized tags → Heard set hs (beginning tags) → AllByRecursion (λ h. h ≢ Lone) hs
-    → (played set hs (beginning tags)).phase ≡ ended 0 → All (λ t. is_due t ≡ false) tags
+pub none_due : (set : Setting) (hs : List Hearing) (tags : List Tag) → Sized tags → MayHearAll set hs (beginning tags) → AllByRecursion (λ h. h ≢ Lone) hs
+    → (run_by set hs (beginning tags)).phase ≡ ended 0 → All (λ t. is_due t ≡ false) tags
 none_due set hs tags sized heard others e =
-    let p : Play = played set hs (beginning tags) in
+    let p : Play = run_by set hs (beginning tags) in
     let o = over set hs tags sized (all_clear tags hs others) heard e in
     let none : p.serials ≡ [] = no_serials p.phase p (unlisted set hs (beginning tags) others refl) in
     All-from_recursion (λ t. is_due t ≡ false) tags (none_picked is_due tags (λ serial. sym (o.serials serial) ∙ ap (times serial) none))

@@ -5,21 +5,21 @@ use Rattle.std.specs.Str.{bytes_eq}
 use Rattle.crc.specs.Check.{sealed}
 use Rattle.protocol.specs.declared.command.Command.{Command}
 use Rattle.protocol.specs.declared.command.Command.TheVariants.{Read}
-use Rattle.protocol.specs.Commands.{code_of, layout, length_of, named}
-use Rattle.frame.specs.Openings.{Opening, refused, opened, opening, by_name, is_sealed, parameters_of}
+use Rattle.protocol.specs.Commands.{code_of, layout, length_of, command_with_code}
+use Rattle.frame.specs.Openings.{Opening, refused, opened, opening, opening_by_command, is_sealed, parameters_of}
 use Rattle.frame.specs.Parts.{Part, bytes_of, placed}
 use Rattle.protocol.specs.declared.command.Parameter.TheVariants.{Serial, Address}
 use Rattle.record.specs.declared.Tag.{Tag}
 use Rattle.record.specs.Records.{bytes_from}
-use Rattle.reply.specs.Replies.{sounding}
+use Rattle.reply.specs.Replies.{sealed_reply}
 use Rattle.tag.specs.Orders.{damaged, unknown, byte_of}
-use Rattle.tag.specs.Steps.{met, moved, obeyed, is_meant, answered, stepped, replied}
+use Rattle.tag.specs.Steps.{prepared, dealt_with, obeyed, has_serial, answered, stepped, replied}
 use Rattle.field.specs.declared.hearing.Hearing.{Hearing}
 use Rattle.field.specs.declared.hearing.Hearing.TheVariants.{Silence, Lone, Clash}
-use Rattle.field.specs.Airs.{Air, mixed, voice, plainly}
+use Rattle.field.specs.Airs.{Air, mixed, air_of_one, plain_hearing}
 use Rattle.field.specs.Sends.{first_coin, stepped_all, on_air}
 use Rattle.slot.specs.Commands.{frame_of, target, read}
-use Rattle.slot.specs.Rules.{Setting, Phase, fresh, in_silence, in_lone, in_clash, in_reading, Play, Deed, beginning, ended, opens, reads, opened_by, read_by, air_of, done, went, plain, replayed}
+use Rattle.slot.specs.Rules.{Setting, Phase, fresh, in_silence, in_lone, in_clash, in_reading, SweepState, Action, beginning, ended, opens, reads, opened_by, read_by, air_of, after_action, advanced, next_plain_hearing, replayed}
 use Rattle.sweep.specs.Tallies.{heard_as, ReadsOnce}
 use Rattle.sweep.proofs.Deeds.{by_deed, holds_replayed}
 use Rattle.sweep.proofs.Balances.{one_more}
@@ -29,7 +29,7 @@ abbrev IsSteady : Opening → Type 0
 IsSteady frame = (a b c : Bool) (t : Tag) → replied frame a (stepped frame b t) ≡ replied frame c t
 
 no_reply : (d a b c : Bool) (t : Tag)
-    → sounding (answered (cond d damaged unknown) a (met (obeyed (cond d damaged unknown) b t.permission (met t)))) ≡ sounding (answered (cond d damaged unknown) c (met t))
+    → sealed_reply (answered (cond d damaged unknown) a (prepared (obeyed (cond d damaged unknown) b t.permission (prepared t)))) ≡ sealed_reply (answered (cond d damaged unknown) c (prepared t))
 no_reply true a b c t = refl
 no_reply false a b c t = refl
 
@@ -40,12 +40,12 @@ refused-is_steady n a b c t = no_reply (ltb n 3) a b c t
 read-is_steady : (code : ℕ) (parts : List Part) → IsSteady (opened code Read parts)
 read-is_steady code parts a b c t =
     let left : (stepped (opened code Read parts) b t).memory ≡ t.memory =
-    cond_both (is_meant t (bytes_of Serial parts)) (record (moved (met t)) { permission = Some (byte_of Address parts) }) (met t) (λ (u : Tag). u.memory ≡ t.memory)
+    cond_both (has_serial t (bytes_of Serial parts)) (record (dealt_with (prepared t)) { permission = Some (byte_of Address parts) }) (prepared t) (λ (u : Tag). u.memory ≡ t.memory)
     (λ e. refl) (λ e. refl) in
-    ap (λ (m : List ℕ). sounding (cond (bytes_eq (take 8 m) (bytes_of Serial parts)) (Some (bytes_from m (byte_of Address parts) 8)) None)) left
+    ap (λ (m : List ℕ). sealed_reply (cond (bytes_eq (take 8 m) (bytes_of Serial parts)) (Some (bytes_from m (byte_of Address parts) 8)) None)) left
 
-named_read : (bytes : List ℕ) → named (get_or (sealed (code_of Read ∷ bytes)) 0 0) ≡ Some Read
-unfolding named sealed
+named_read : (bytes : List ℕ) → command_with_code (get_or (sealed (code_of Read ∷ bytes)) 0 0) ≡ Some Read
+unfolding command_with_code sealed
 named_read bytes = refl
 
 steady : (serial : List ℕ) → IsSteady (opening (read serial))
@@ -53,10 +53,10 @@ unfolding read opening
 steady serial =
     let frame : List ℕ = frame_of Read (target serial) in
     let parts : List Part = placed 1 (layout Read) (parameters_of frame) in
-    cond_both (ltb (length frame) 3) (refused 1) (cond (is_sealed frame) (by_name (named (get_or frame 0 0)) frame) (refused 2)) IsSteady
+    cond_both (ltb (length frame) 3) (refused 1) (cond (is_sealed frame) (opening_by_command (command_with_code (get_or frame 0 0)) frame) (refused 2)) IsSteady
     (λ e. refused-is_steady 1)
-    (λ e. cond_both (is_sealed frame) (by_name (named (get_or frame 0 0)) frame) (refused 2) IsSteady
-    (λ f. subst (λ (c : Option Command). IsSteady (by_name c frame)) (sym (named_read (target serial)))
+    (λ e. cond_both (is_sealed frame) (opening_by_command (command_with_code (get_or frame 0 0)) frame) (refused 2) IsSteady
+    (λ f. subst (λ (c : Option Command). IsSteady (opening_by_command c frame)) (sym (named_read (target serial)))
     (cond_both (eqb (length frame) (length_of Read)) (opened (code_of Read) Read parts) (refused 4) IsSteady
     (λ g. read-is_steady (code_of Read) parts) (λ g. refused-is_steady 4)))
     (λ f. refused-is_steady 2))
@@ -65,13 +65,13 @@ steady_air : (frame : Opening) → IsSteady frame → (r q s : ℕ) (tags : List
 unfolding on_air stepped_all
 steady_air frame h r q s [] = refl
 steady_air frame h r q s (t ∷ ts) =
-    ap₂ (λ (x : Option (List ℕ)) (y : Air). mixed (voice x) y) (h (first_coin r) (first_coin q) (first_coin s) t) (steady_air frame h (r / 2) (q / 2) (s / 2) ts)
+    ap₂ (λ (x : Option (List ℕ)) (y : Air). mixed (air_of_one x) y) (h (first_coin r) (first_coin q) (first_coin s) t) (steady_air frame h (r / 2) (q / 2) (s / 2) ts)
 
 -- No READ of a serial number will ever be heard as lone.
-abbrev IsStuck : List ℕ → Play → Type 0
-IsStuck serial p = plainly (on_air (opening (read serial)) 0 p.tags) ≡ Lone → ⊥
+abbrev IsStuck : List ℕ → SweepState → Type 0
+IsStuck serial p = plain_hearing (on_air (opening (read serial)) 0 p.tags) ≡ Lone → ⊥
 
-abbrev Once : Phase → Play → Type 0
+abbrev Once : Phase → SweepState → Type 0
 Once fresh p = p.reads ≡ heard_as Lone p.slots
 Once in_silence p = p.reads ≡ heard_as Lone p.slots
 Once (in_lone serial) p = p.reads + 1 ≡ heard_as Lone p.slots
@@ -80,29 +80,29 @@ Once (in_reading serial) p = (p.reads + 1 ≡ heard_as Lone p.slots) ⊎ IsStuck
 Once (ended zero) p = p.reads ≡ heard_as Lone p.slots
 Once (ended (suc n)) p = Unit {0}
 
-once_open : (h : Hearing) (c : Command) (frame : List ℕ) (row g next : ℕ) (p : Play) (air : Air) → p.reads ≡ heard_as Lone p.slots
-    → Once (opened_by h air) (done (opens c frame row g next) h p)
+once_open : (h : Hearing) (c : Command) (frame : List ℕ) (row g next : ℕ) (p : SweepState) (air : Air) → p.reads ≡ heard_as Lone p.slots
+    → Once (opened_by h air) (after_action (opens c frame row g next) h p)
 once_open Silence c frame row g next p air e = omega (arith, one_more Lone p.slots (record { command = c; hearing = Silence; waiting = g }))
 once_open Lone c frame row g next p air e = omega (arith, one_more Lone p.slots (record { command = c; hearing = Lone; waiting = g }))
 once_open Clash c frame row g next p air e = omega (arith, one_more Lone p.slots (record { command = c; hearing = Clash; waiting = g }))
 
 -- A READ that is not heard as lone never will be.
-stays_stuck : (serial : List ℕ) (p : Play) → IsStuck serial p → IsStuck serial (record p { tags = stepped_all (opening (read serial)) 0 p.tags })
-stays_stuck serial p stuck e = stuck (sym (ap plainly (steady_air (opening (read serial)) (steady serial) 0 0 0 p.tags)) ∙ e)
+stays_stuck : (serial : List ℕ) (p : SweepState) → IsStuck serial p → IsStuck serial (record p { tags = stepped_all (opening (read serial)) 0 p.tags })
+stays_stuck serial p stuck e = stuck (sym (ap plain_hearing (steady_air (opening (read serial)) (steady serial) 0 0 0 p.tags)) ∙ e)
 
-once_read : (h : Hearing) (serial : List ℕ) (p : Play) → plainly (on_air (opening (read serial)) 0 p.tags) ≡ h → (p.reads + 1 ≡ heard_as Lone p.slots) ⊎ IsStuck serial p
-    → Once (read_by h serial) (done (reads serial) h p)
+once_read : (h : Hearing) (serial : List ℕ) (p : SweepState) → plain_hearing (on_air (opening (read serial)) 0 p.tags) ≡ h → (p.reads + 1 ≡ heard_as Lone p.slots) ⊎ IsStuck serial p
+    → Once (read_by h serial) (after_action (reads serial) h p)
 once_read Silence serial p heard or_stuck = inr (stays_stuck serial p (λ e. let k : Silence ≡ Lone = sym heard ∙ e in cc))
 once_read Clash serial p heard or_stuck = inr (stays_stuck serial p (λ e. let k : Clash ≡ Lone = sym heard ∙ e in cc))
 once_read Lone serial p heard (inl e) = e
 once_read Lone serial p heard (inr stuck) = absurd (stuck heard)
 
-abbrev StaysOnce : Play → Phase → Deed → Type 0
+abbrev StaysOnce : SweepState → Phase → Action → Type 0
 StaysOnce p phase deed =
-    Once phase p → Once p.phase p → Once (done deed (plainly (air_of deed p.tags)) p).phase (done deed (plainly (air_of deed p.tags)) p)
+    Once phase p → Once p.phase p → Once (after_action deed (plain_hearing (air_of deed p.tags)) p).phase (after_action deed (plain_hearing (air_of deed p.tags)) p)
 
-once_on : (set : Setting) (p : Play) → Once p.phase p → Once (went set (plain set p) p).phase (went set (plain set p) p)
-unfolding went plain
+once_on : (set : Setting) (p : SweepState) → Once p.phase p → Once (advanced set (next_plain_hearing set p) p).phase (advanced set (next_plain_hearing set p) p)
+unfolding advanced next_plain_hearing
 once_on set p once =
     by_deed set p (StaysOnce p)
     (record {

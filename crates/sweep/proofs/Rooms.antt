@@ -6,8 +6,8 @@ use Rattle.record.specs.declared.Tag.{Tag}
 use Rattle.field.specs.declared.hearing.Hearing.{Hearing}
 use Rattle.field.specs.declared.hearing.Hearing.TheVariants.{Silence, Lone, Clash}
 use Rattle.field.specs.Airs.{Air}
-use Rattle.slot.specs.declared.row.SlotRow.{SlotRow}
-use Rattle.slot.specs.Rules.{Setting, Play, beginning, ended, opens, lists, reads, closes, stops, opened_by, read_by, done, went}
+use Rattle.slot.specs.declared.listed.ListedSlot.{ListedSlot}
+use Rattle.slot.specs.Rules.{Setting, SweepState, beginning, ended, opens, lists, reads, closes, stops, opened_by, read_by, after_action, advanced}
 use Rattle.sweep.specs.Tallies.{Kept, Keeps}
 use Rattle.sweep.proofs.Deeds.{by_deed, holds_played}
 
@@ -25,14 +25,14 @@ same_end : (m n : ℕ) → ended m ≡ ended n → m ≡ n
 same_end m n e = cc
 
 module _ (set : Setting) where
-  goes_on : (q : Play) → ((n : ℕ) → q.phase ≡ ended n → ⊥) → q.commands ≤ set.budget → length q.slots ≤ set.slot_room
+  goes_on : (q : SweepState) → ((n : ℕ) → q.phase ≡ ended n → ⊥) → q.commands ≤ set.budget → length q.slots ≤ set.slot_room
       → length q.serials ≤ set.serial_room → length q.slots ≤ q.commands → Kept set q
   goes_on q on a b c d =
       record { budget = a; slot_room = b; serial_room = c; opened = d; spent = λ e. absurd (on 8 e); full = λ e. absurd (on 9 e) }
 
-  module _ (h : Hearing) (p : Play) (k : Kept set p) where
+  module _ (h : Hearing) (p : SweepState) (k : Kept set p) where
     kept_stop : (n : ℕ) → (n ≡ 8 → set.budget ≤ p.commands) → (n ≡ 9 → (set.slot_room ≤ length p.slots) ⊎ (set.serial_room ≤ length p.serials))
-        → Kept set (done (stops n) h p)
+        → Kept set (after_action (stops n) h p)
     kept_stop n over full =
         record {
           budget = k.budget;
@@ -50,20 +50,20 @@ module _ (set : Setting) where
         }
 
     kept_open : (c : Command) (frame : List ℕ) (row g next : ℕ) → p.commands < set.budget → length p.slots < set.slot_room
-        → Kept set (done (opens c frame row g next) h p)
+        → Kept set (after_action (opens c frame row g next) h p)
     kept_open c frame row g next a b =
-        let slot : SlotRow = record { command = c; hearing = h; waiting = g } in
-        goes_on (done (opens c frame row g next) h p) (opened-not_ended h _) (omega arith) (omega (arith, length-append p.slots (slot ∷ []))) k.serial_room
+        let slot : ListedSlot = record { command = c; hearing = h; waiting = g } in
+        goes_on (after_action (opens c frame row g next) h p) (opened-not_ended h _) (omega arith) (omega (arith, length-append p.slots (slot ∷ []))) k.serial_room
         (omega (arith, length-append p.slots (slot ∷ []), k.opened))
 
-    kept_list : (serial : List ℕ) → length p.serials < set.serial_room → Kept set (done (lists serial) h p)
+    kept_list : (serial : List ℕ) → length p.serials < set.serial_room → Kept set (after_action (lists serial) h p)
     kept_list serial a =
-        goes_on (done (lists serial) h p) (λ n e. cc) k.budget k.slot_room (omega (arith, length-append p.serials (serial ∷ []))) k.opened
+        goes_on (after_action (lists serial) h p) (λ n e. cc) k.budget k.slot_room (omega (arith, length-append p.serials (serial ∷ []))) k.opened
 
-    kept_read : (serial : List ℕ) → p.commands < set.budget → Kept set (done (reads serial) h p)
-    kept_read serial a = goes_on (done (reads serial) h p) (read-not_ended h serial) (omega arith) k.slot_room k.serial_room (omega (arith, k.opened))
+    kept_read : (serial : List ℕ) → p.commands < set.budget → Kept set (after_action (reads serial) h p)
+    kept_read serial a = goes_on (after_action (reads serial) h p) (read-not_ended h serial) (omega arith) k.slot_room k.serial_room (omega (arith, k.opened))
 
-    kept_close : p.commands < set.budget → Kept set (done closes h p)
+    kept_close : p.commands < set.budget → Kept set (after_action closes h p)
     kept_close a =
         record {
           budget = omega arith;
@@ -74,11 +74,11 @@ module _ (set : Setting) where
           full = λ e. absurd (omega (arith, same_end 0 9 e));
         }
 
-    -- Each deed keeps to them.
-    pub kept_on : Kept set (went set h p)
-    unfolding went
+    -- Each action keeps to them.
+    pub kept_on : Kept set (advanced set h p)
+    unfolding advanced
     kept_on =
-        by_deed set p (λ phase deed. Kept set (done deed h p))
+        by_deed set p (λ phase deed. Kept set (after_action deed h p))
         (record {
           spent = λ phase over. kept_stop 8 (λ e. over) (λ e. absurd (omega arith));
           full = λ phase over. kept_stop 9 (λ e. absurd (omega arith)) (λ e. over);

@@ -1,5 +1,5 @@
 pub mod Cases
-pub mod Fates
-pub mod Steps
+pub mod Effects
 pub mod Tallies
 pub mod Whole
+pub mod Working

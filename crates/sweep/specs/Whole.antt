@@ -1,31 +1,31 @@
 -- What the call that sweeps a field says of its outcome. Assumes nothing.
 use Rattle.std.specs.Prelude.{◌≡◌, ℕ, ◌+◌, ◌≤◌, ◌⊎◌, Bool, List, map, length, IsTrue}
 use Rattle.record.specs.declared.Tag.{Tag}
-use Rattle.rows.specs.Filling.{rows_of}
+use Rattle.slice_vec.specs.Filling.{items_of}
 use Rattle.field.specs.declared.field.Field.{Ghosts as Kind}
 use Rattle.field.specs.declared.hearing.Hearing.{Hearing}
 use Rattle.field.specs.declared.hearing.Hearing.TheVariants.{Silence, Lone, Clash}
-use Rattle.slot.specs.declared.row.SlotRow.{SlotRow}
+use Rattle.slot.specs.declared.listed.ListedSlot.{ListedSlot}
 use Rattle.slot.specs.declared.ending.Report.{Report}
 use Rattle.slot.specs.declared.lists.Lists.{Lists}
-use Rattle.slot.specs.Countings.{end_number}
-use Rattle.slot.specs.Rules.{Setting, Play, beginning, ended, played, Heard, replayed}
-use Rattle.slot.specs.Runs.{GoesAlong}
-use Rattle.sweep.specs.Fates.{fate_of, due_serials, Distinct, EachOnce}
+use Rattle.slot.specs.Counts.{end_number}
+use Rattle.slot.specs.Rules.{Setting, SweepState, beginning, ended, run_by, MayHearAll, replayed}
+use Rattle.slot.specs.Traces.{FieldFollows}
+use Rattle.sweep.specs.Effects.{tag_after_sweep, due_serials, Distinct, EachOnce}
 use Rattle.sweep.specs.Tallies.{heard_as, enough}
 
 -- What a sweep has reported.
 pub record Outcome : Type 0 where
   pub report : Report
-  pub slots : List SlotRow
+  pub slots : List ListedSlot
   pub serials : List (List ℕ)
 
 -- By its report and its lists.
 abbrev pub outcome_of : Report → Lists → Outcome
-outcome_of report lists = record { report = report; slots = rows_of lists.slots; serials = rows_of lists.serials }
+outcome_of report lists = record { report = report; slots = items_of lists.slots; serials = items_of lists.serials }
 
 -- The outcome, and the tags that are left, are those of a sweep that has ended by the rule.
-pub record Reported (o : Outcome) (after : List Tag) (p : Play) : Type 0 where
+pub record Reported (o : Outcome) (after : List Tag) (p : SweepState) : Type 0 where
   pub at_end : p.phase ≡ ended (end_number o.report.end)
   pub commands : o.report.counts.commands ≡ p.commands
   pub lone : o.report.counts.lone ≡ heard_as Lone p.slots
@@ -39,13 +39,13 @@ pub record Reported (o : Outcome) (after : List Tag) (p : Play) : Type 0 where
 -- field going along. Where every lone reply is heard as lone, nothing is free: it is what replaying the rule gives.
 pub record Swept {F : Type 0} (kind : Kind F) (set : Setting) (before after : F) (o : Outcome) : Type 0 where
   pub hearings : List Hearing
-  pub heard : Heard set hearings (beginning (kind.tags before))
-  pub by_rule : Reported o (kind.tags after) (played set hearings (beginning (kind.tags before)))
-  pub field : GoesAlong kind set hearings (beginning (kind.tags before)) before after
+  pub heard : MayHearAll set hearings (beginning (kind.tags before))
+  pub by_rule : Reported o (kind.tags after) (run_by set hearings (beginning (kind.tags before)))
+  pub field : FieldFollows kind set hearings (beginning (kind.tags before)) before after
   pub plain : IsTrue (kind.faithful before) → Reported o (kind.tags after) (replayed set (enough set) (beginning (kind.tags before)))
   -- in a whole sweep the commands are slots, READs and one
   pub commands : end_number o.report.end ≡ 0
-      → o.report.counts.commands ≡ length o.slots + (played set hearings (beginning (kind.tags before))).reads + 1
+      → o.report.counts.commands ≡ length o.slots + (run_by set hearings (beginning (kind.tags before))).reads + 1
 
 -- A whole sweep.
 pub record Complete (faithful : Bool) (before after : List Tag) (o : Outcome) : Type 0 where
@@ -54,7 +54,7 @@ pub record Complete (faithful : Bool) (before after : List Tag) (o : Outcome) : 
   -- where lone replies are heard as lone, the commands are the slots, one READ for each lone one, and one
   pub commands : IsTrue faithful → o.report.counts.commands ≡ length o.slots + o.report.counts.lone + 1
   -- what is left and reported hangs on no coin and on no hearing, where no serial number is there twice
-  pub tags : Distinct before → after ≡ map fate_of before
+  pub tags : Distinct before → after ≡ map tag_after_sweep before
   pub serials : Distinct before → EachOnce o.serials (due_serials before)
 
 -- What holds of every sweep.

@@ -3,7 +3,7 @@
 
 ghost use Rattle.std.specs.Prelude.{◌≡◌, IfOk, OnErr, if◌then◌else◌, Some, None};
 ghost use Rattle.protocol.specs.Refusals.{refusal_in};
-ghost use Rattle.slot.specs.Going.{setting, BothBehind, is_recorded};
+ghost use Rattle.slot.specs.Calls.{setting, BothBehind, is_recorded};
 ghost use Rattle.sweep.specs.Cases.{EmptySweeps};
 ghost use Rattle.sweep.specs.Whole.{outcome_of, Swept, Lawful};
 

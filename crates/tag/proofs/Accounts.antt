@@ -15,11 +15,11 @@ use Rattle.record.specs.declared.WriteMark.TheVariants.{Clear, Fresh}
 use Rattle.record.specs.declared.Tag.{Tag}
 use Rattle.record.specs.Masks.{selects, stored_at, stored}
 use Rattle.record.proofs.Sizes.{length-stored}
-use Rattle.tag.specs.Memories.{is_reached, stores_at, locks_at, Accounted}
+use Rattle.tag.specs.MemoryLaws.{is_covered, stores_at, locks_at, MemoryLaw}
 use Rattle.tag.specs.Orders.{damaged, unknown, byte_of}
 use Rattle.record.specs.Records.{locked_at, is_write_ok}
 use Rattle.tag.proofs.Branches.{either, singulated}
-use Rattle.tag.specs.Steps.{met, moved, obeyed, stepped, if_inventoried, is_meant, is_writable, is_lockable}
+use Rattle.tag.specs.Steps.{prepared, dealt_with, obeyed, stepped, if_inventoried, has_serial, is_writable, is_lockable}
 
 -- Two records with the same memory and the same locks.
 record Same (t u : Tag) : Type 0 where
@@ -29,18 +29,18 @@ record Same (t u : Tag) : Type 0 where
 still : (t : Tag) → (u : Tag) → u.memory ≡ t.memory → u.locks ≡ t.locks → Same t u
 still t u e f = record { bytes = e; locks = f }
 
-only_met : (t : Tag) → Same t (met t)
-only_met t = still t (met t) refl refl
+only_met : (t : Tag) → Same t (prepared t)
+only_met t = still t (prepared t) refl refl
 
-not_opened : (coin : Bool) (t : Tag) (b : Bool) → Same t (obeyed (cond b damaged unknown) coin t.permission (met t))
-not_opened coin t true = still t (record (met t) { state = Ready }) refl refl
+not_opened : (coin : Bool) (t : Tag) (b : Bool) → Same t (obeyed (cond b damaged unknown) coin t.permission (prepared t))
+not_opened coin t true = still t (record (prepared t) { state = Ready }) refl refl
 not_opened coin t false = only_met t
 
 or_nothing : (b : Bool) → b ≡ (b || false)
 or_nothing true = refl
 or_nothing false = refl
 
-untouched : (o : Opening) (t u : Tag) → ((i : ℕ) → stores_at o t i ≡ false) → ((i : ℕ) → locks_at o t i ≡ false) → Same t u → Accounted o t u
+untouched : (o : Opening) (t u : Tag) → ((i : ℕ) → stores_at o t i ≡ false) → ((i : ℕ) → locks_at o t i ≡ false) → Same t u → MemoryLaw o t u
 untouched o t u no_byte no-lock same =
     record {
       bytes = λ i. rw (no_byte i) (ap (λ (m : List ℕ). get_or m i 0) same.bytes);
@@ -108,27 +108,27 @@ writable_inside t a ll h =
     let inside = unlocked_inside t.locks (a + 3) last.1 in
     omega arith
 
-wrote : (code : ℕ) (parts : List Part) (t : Tag) → length t.memory ≡ 56 → length t.locks ≡ 56 → (meant writable : Bool) → is_meant t (bytes_of Serial parts) ≡ meant
+wrote : (code : ℕ) (parts : List Part) (t : Tag) → length t.memory ≡ 56 → length t.locks ≡ 56 → (meant writable : Bool) → has_serial t (bytes_of Serial parts) ≡ meant
     → is_writable t (byte_of Address parts) ≡ writable
-    → Accounted (opened code Write parts) t
+    → MemoryLaw (opened code Write parts) t
     (cond meant
     (cond writable
-    (record (moved (met t)) {
+    (record (dealt_with (prepared t)) {
       memory = stored (byte_of Address parts) (byte_of Mask parts) (bytes_of Data parts) t.memory 4;
       mark = Fresh;
       permission = Some (byte_of Address parts);
-    }) (record (moved (met t)) { mark = Clear })) (met t))
+    }) (record (dealt_with (prepared t)) { mark = Clear })) (prepared t))
 wrote code parts t lm ll false writable em ew =
-    untouched (opened code Write parts) t (met t) (λ i. and_left _ _ (and_left (is_meant t (bytes_of Serial parts)) _ em)) (λ i. refl) (only_met t)
+    untouched (opened code Write parts) t (prepared t) (λ i. and_left _ _ (and_left (has_serial t (bytes_of Serial parts)) _ em)) (λ i. refl) (only_met t)
 wrote code parts t lm ll true false em ew =
-    untouched (opened code Write parts) t (record (moved (met t)) { mark = Clear }) (λ i. and_left _ _ (and_right (is_meant t (bytes_of Serial parts)) _ ew)) (λ i. refl)
-    (still t (record (moved (met t)) { mark = Clear }) refl refl)
+    untouched (opened code Write parts) t (record (dealt_with (prepared t)) { mark = Clear }) (λ i. and_left _ _ (and_right (has_serial t (bytes_of Serial parts)) _ ew)) (λ i. refl)
+    (still t (record (dealt_with (prepared t)) { mark = Clear }) refl refl)
 wrote code parts t lm ll true true em ew =
     let a : ℕ = byte_of Address parts in
     let mask : ℕ = byte_of Mask parts in
     let inside = writable_inside t a ll ew in
-    let asked : (i : ℕ) → stores_at (opened code Write parts) t i ≡ is_reached a mask i =
-    λ i. ap₂ (λ (x y : Bool). (x && y) && is_reached a mask i) em ew in
+    let asked : (i : ℕ) → stores_at (opened code Write parts) t i ≡ is_covered a mask i =
+    λ i. ap₂ (λ (x y : Bool). (x && y) && is_covered a mask i) em ew in
     record {
       bytes = λ i. stored_at_lem a mask (bytes_of Data parts) t.memory 4 i (omega arith)
           ∙ ap (λ (b : Bool). cond b (get_or (bytes_of Data parts) (i - a) 0) (get_or t.memory i 0)) (sym (asked i));
@@ -146,24 +146,24 @@ locks_at_lem row a i h =
       | inr off ↦ get_or-set_other row a i true true off.1 ∙ or_nothing (get_or row i true) ∙ ap (λ (b : Bool). get_or row i true || b) (sym off.0)
     ]
 
-locked_at_lem : (code : ℕ) (parts : List Part) (t : Tag) → length t.locks ≡ 56 → (meant lockable : Bool) (s : State) → is_meant t (bytes_of Serial parts) ≡ meant
+locked_at_lem : (code : ℕ) (parts : List Part) (t : Tag) → length t.locks ≡ 56 → (meant lockable : Bool) (s : State) → has_serial t (bytes_of Serial parts) ≡ meant
     → t.state ≡ s → is_lockable t.permission (byte_of Address parts) ≡ lockable
-    → Accounted (opened code Lock parts) t
+    → MemoryLaw (opened code Lock parts) t
     (cond meant
-    (if_inventoried s (cond lockable (record (met t) { locks = set t.locks (byte_of Address parts) true; mark = Fresh }) (record (met t) { mark = Clear })) (met t))
-    (met t))
+    (if_inventoried s (cond lockable (record (prepared t) { locks = set t.locks (byte_of Address parts) true; mark = Fresh }) (record (prepared t) { mark = Clear })) (prepared t))
+    (prepared t))
 locked_at_lem code parts t ll false lockable s em es ek =
-    untouched (opened code Lock parts) t (met t) (λ i. refl) (λ i. and_left _ _ (and_left _ _ (and_left (is_meant t (bytes_of Serial parts)) _ em))) (only_met t)
+    untouched (opened code Lock parts) t (prepared t) (λ i. refl) (λ i. and_left _ _ (and_left _ _ (and_left (has_serial t (bytes_of Serial parts)) _ em))) (only_met t)
 locked_at_lem code parts t ll true lockable Ready em es ek =
-    untouched (opened code Lock parts) t (met t) (λ i. refl) (λ i. and_left _ _ (and_left _ _ (and_right (is_meant t (bytes_of Serial parts)) _ (ap (λ (x : State). if_inventoried x true false) es))))
+    untouched (opened code Lock parts) t (prepared t) (λ i. refl) (λ i. and_left _ _ (and_left _ _ (and_right (has_serial t (bytes_of Serial parts)) _ (ap (λ (x : State). if_inventoried x true false) es))))
     (only_met t)
 locked_at_lem code parts t ll true lockable Singulation em es ek =
-    untouched (opened code Lock parts) t (met t) (λ i. refl) (λ i. and_left _ _ (and_left _ _ (and_right (is_meant t (bytes_of Serial parts)) _ (ap (λ (x : State). if_inventoried x true false) es))))
+    untouched (opened code Lock parts) t (prepared t) (λ i. refl) (λ i. and_left _ _ (and_left _ _ (and_right (has_serial t (bytes_of Serial parts)) _ (ap (λ (x : State). if_inventoried x true false) es))))
     (only_met t)
 locked_at_lem code parts t ll true false Inventoried em es ek =
-    untouched (opened code Lock parts) t (record (met t) { mark = Clear }) (λ i. refl)
-    (λ i. and_left _ _ (and_right (is_meant t (bytes_of Serial parts) && if_inventoried t.state true false) _ ek))
-    (still t (record (met t) { mark = Clear }) refl refl)
+    untouched (opened code Lock parts) t (record (prepared t) { mark = Clear }) (λ i. refl)
+    (λ i. and_left _ _ (and_right (has_serial t (bytes_of Serial parts) && if_inventoried t.state true false) _ ek))
+    (still t (record (prepared t) { mark = Clear }) refl refl)
 locked_at_lem code parts t ll true true Inventoried em es ek =
     let a : ℕ = byte_of Address parts in
     let inside = lockable_inside t.permission a ek in
@@ -176,7 +176,7 @@ locked_at_lem code parts t ll true true Inventoried em es ek =
     }
 
 -- The law, command by command.
-pub accounted : (o : Opening) (coin : Bool) (t : Tag) → length t.memory ≡ 56 → length t.locks ≡ 56 → Accounted o t (stepped o coin t)
+pub accounted : (o : Opening) (coin : Bool) (t : Tag) → length t.memory ≡ 56 → length t.locks ≡ 56 → MemoryLaw o t (stepped o coin t)
 accounted (refused n) coin t lm ll =
     untouched (refused n) t (stepped (refused n) coin t) (λ i. refl) (λ i. refl) (not_opened coin t (ltb n 3))
 accounted (opened code Select parts) coin t lm ll = untouched (opened code Select parts) t _ (λ i. refl) (λ i. refl) (either (Same t) _ _ _ (still t _ refl refl) (still t _ refl refl))
@@ -191,8 +191,8 @@ accounted (opened code Read parts) coin t lm ll = untouched (opened code Read pa
 accounted (opened code ReadFlexible parts) coin t lm ll = untouched (opened code ReadFlexible parts) t _ (λ i. refl) (λ i. refl) (either (Same t) _ _ _ (still t _ refl refl) (still t _ refl refl))
 accounted (opened code Verify parts) coin t lm ll =
     untouched (opened code Verify parts) t _ (λ i. refl) (λ i. refl)
-    (either (Same t) (is_meant t (bytes_of Serial parts)) _ _ (either (Same t) (is_write_ok (met t).mark) _ _ (still t (moved (met t)) refl refl) (only_met t)) (only_met t))
+    (either (Same t) (has_serial t (bytes_of Serial parts)) _ _ (either (Same t) (is_write_ok (prepared t).mark) _ _ (still t (dealt_with (prepared t)) refl refl) (only_met t)) (only_met t))
 accounted (opened code Qlock parts) coin t lm ll = untouched (opened code Qlock parts) t _ (λ i. refl) (λ i. refl) (either (Same t) _ _ _ (still t _ refl refl) (still t _ refl refl))
-accounted (opened code Write parts) coin t lm ll = wrote code parts t lm ll (is_meant t (bytes_of Serial parts)) (is_writable t (byte_of Address parts)) refl refl
+accounted (opened code Write parts) coin t lm ll = wrote code parts t lm ll (has_serial t (bytes_of Serial parts)) (is_writable t (byte_of Address parts)) refl refl
 accounted (opened code Lock parts) coin t lm ll =
-    locked_at_lem code parts t ll (is_meant t (bytes_of Serial parts)) (is_lockable t.permission (byte_of Address parts)) t.state refl refl refl
+    locked_at_lem code parts t ll (has_serial t (bytes_of Serial parts)) (is_lockable t.permission (byte_of Address parts)) t.state refl refl refl

@@ -8,7 +8,7 @@ use Rattle.frame.specs.Openings.{Opening, refused, opened, parts_in}
 use Rattle.frame.specs.Parts.{bytes_of}
 use Rattle.record.specs.declared.Tag.{Tag}
 use Rattle.tag.specs.Orders.{byte_of}
-use Rattle.tag.specs.Steps.{is_meant, is_writable, is_lockable, if_inventoried}
+use Rattle.tag.specs.Steps.{has_serial, is_writable, is_lockable, if_inventoried}
 
 -- Whether a frame opened, as a command.
 abbrev pub is_a : Command → Opening → Bool
@@ -20,7 +20,7 @@ address_in frame = byte_of Address (parts_in frame)
 
 -- Whether a frame is a command with a tag's serial number.
 abbrev pub is_for : Command → Opening → Tag → Bool
-is_for c frame t = is_a c frame && is_meant t (bytes_of Serial (parts_in frame))
+is_for c frame t = is_a c frame && has_serial t (bytes_of Serial (parts_in frame))
 
 -- Whether a frame stores in a tag: it is a WRITE for it, which may store where it wants to.
 abbrev pub stores_in : Opening → Tag → Bool

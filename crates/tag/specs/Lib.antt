@@ -1,8 +1,8 @@
 pub mod Cases
-pub mod Flags
+pub mod FlagLaws
 pub mod Frames
-pub mod Marks
-pub mod Memories
+pub mod MarkLaws
+pub mod MemoryLaws
 pub mod Orders
-pub mod Permissions
+pub mod PermissionLaws
 pub mod Steps

@@ -20,7 +20,7 @@ pub data Order : Type 0 where
   query : Order
   scroll : Order
   -- REPEAT
-  again : Order
+  repeat : Order
   reset : Order
   -- serial number, address, and how many bytes
   read : List ℕ → ℕ → ℕ → Order
@@ -42,23 +42,23 @@ byte_of p parts = slice_index (bytes_of p parts) 0
 abbrev pub is_matching : Tag → Comparison → Bool
 is_matching t wanted = matches t.memory wanted.address.part.now wanted.mask.part.now wanted.word.part.now
 
-abbrev pub asked : Command → List Part → Order
-asked Select parts = select (byte_of Address parts) (byte_of Mask parts) (bytes_of Word parts)
-asked UnselectNe parts = unselect_ne (byte_of Address parts) (byte_of Mask parts) (bytes_of Word parts)
-asked UnselectIdFlag parts = unselect_id_flag
-asked UnselectNoidFlag parts = unselect_noid_flag
-asked Query parts = query
-asked Scroll parts = scroll
-asked Repeat parts = again
-asked Reset parts = reset
-asked Read parts = read (bytes_of Serial parts) (byte_of Address parts) 8
-asked ReadFlexible parts = read (bytes_of Serial parts) (byte_of Address parts) (byte_of Length parts + 1)
-asked Verify parts = verify (bytes_of Serial parts) (byte_of Address parts)
-asked Write parts = write (bytes_of Serial parts) (byte_of Address parts) (byte_of Mask parts) (bytes_of Data parts)
-asked Lock parts = lock (bytes_of Serial parts) (byte_of Address parts)
-asked Qlock parts = qlock (bytes_of Serial parts) (byte_of Address parts)
+abbrev pub order_of : Command → List Part → Order
+order_of Select parts = select (byte_of Address parts) (byte_of Mask parts) (bytes_of Word parts)
+order_of UnselectNe parts = unselect_ne (byte_of Address parts) (byte_of Mask parts) (bytes_of Word parts)
+order_of UnselectIdFlag parts = unselect_id_flag
+order_of UnselectNoidFlag parts = unselect_noid_flag
+order_of Query parts = query
+order_of Scroll parts = scroll
+order_of Repeat parts = repeat
+order_of Reset parts = reset
+order_of Read parts = read (bytes_of Serial parts) (byte_of Address parts) 8
+order_of ReadFlexible parts = read (bytes_of Serial parts) (byte_of Address parts) (byte_of Length parts + 1)
+order_of Verify parts = verify (bytes_of Serial parts) (byte_of Address parts)
+order_of Write parts = write (bytes_of Serial parts) (byte_of Address parts) (byte_of Mask parts) (bytes_of Data parts)
+order_of Lock parts = lock (bytes_of Serial parts) (byte_of Address parts)
+order_of Qlock parts = qlock (bytes_of Serial parts) (byte_of Address parts)
 
 -- The order in what opening gave. The refusals are 1 to 4.
-abbrev pub order : Opening → Order
-order (refused n) = if nat_lt n 3 then damaged else unknown
-order (opened code c parts) = asked c parts
+abbrev pub order_in : Opening → Order
+order_in (refused n) = if nat_lt n 3 then damaged else unknown
+order_in (opened code c parts) = order_of c parts

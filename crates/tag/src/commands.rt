@@ -5,7 +5,7 @@ ghost use Rattle.record.specs.declared.State.TheVariants.{Ready};
 ghost use Rattle.record.specs.Records.{is_write_ok, bytes_from, locked_at};
 ghost use Rattle.reply.specs.Replies.{data_in};
 ghost use Rattle.tag.specs.Orders.{is_matching};
-ghost use Rattle.tag.specs.Steps.{joined, unselected, staying, drawn, in_turn, moved, verified};
+ghost use Rattle.tag.specs.Steps.{selected, unselected, unselect_reply, counter_after_query, reply_in_turn, dealt_with, verified};
 ghost use Rattle.tag.specs.Steps.{is_writable, written, locked};
 ghost use Rattle.tag.specs.Steps.{lock_status};
 
@@ -14,8 +14,8 @@ use record::{MEMORY_LENGTH, State, Tag, WriteMark};
 use reply::Reply;
 
 // Is selected from now on, and answers at once.
-pub(crate) fn join(tag: &mut Tag) -> Option<Reply>
-    ensures after { tag.new ≡ joined tag.old }
+pub(crate) fn select(tag: &mut Tag) -> Option<Reply>
+    ensures after { tag.new ≡ selected tag.old }
     ensures reply { result ≡ Some Reply.Serial }
 {
     tag.state = State::Singulation;
@@ -32,7 +32,7 @@ pub(crate) fn is_matching(tag: &Tag, wanted: Comparison<'_>) -> bool
 
 pub(crate) fn unselect_ne(tag: &mut Tag, wanted: Comparison<'_>) -> Option<Reply>
     ensures after { tag.new ≡ unselected (not (is_matching tag.old wanted.entry)) tag.old }
-    ensures reply { data_in tag.new result ≡ staying (not (is_matching tag.old wanted.entry)) tag.old }
+    ensures reply { data_in tag.new result ≡ unselect_reply (not (is_matching tag.old wanted.entry)) tag.old }
 {
     let differs = !is_matching(tag, wanted);
     unselect(tag, differs)
@@ -40,7 +40,7 @@ pub(crate) fn unselect_ne(tag: &mut Tag, wanted: Comparison<'_>) -> Option<Reply
 
 pub(crate) fn unselect_id_flag(tag: &mut Tag) -> Option<Reply>
     ensures after { tag.new ≡ unselected tag.old.identified tag.old }
-    ensures reply { data_in tag.new result ≡ staying tag.old.identified tag.old }
+    ensures reply { data_in tag.new result ≡ unselect_reply tag.old.identified tag.old }
 {
     let is_set = tag.identified;
     unselect(tag, is_set)
@@ -48,7 +48,7 @@ pub(crate) fn unselect_id_flag(tag: &mut Tag) -> Option<Reply>
 
 pub(crate) fn unselect_noid_flag(tag: &mut Tag) -> Option<Reply>
     ensures after { tag.new ≡ unselected (not tag.old.identified) tag.old }
-    ensures reply { data_in tag.new result ≡ staying (not tag.old.identified) tag.old }
+    ensures reply { data_in tag.new result ≡ unselect_reply (not tag.old.identified) tag.old }
 {
     let is_clear = !tag.identified;
     unselect(tag, is_clear)
@@ -57,36 +57,36 @@ pub(crate) fn unselect_noid_flag(tag: &mut Tag) -> Option<Reply>
 // Leaves silently, or stays and answers at once.
 fn unselect(tag: &mut Tag, leaves: bool) -> Option<Reply>
     ensures after { tag.new ≡ unselected leaves tag.old }
-    ensures reply { data_in tag.new result ≡ staying leaves tag.old }
+    ensures reply { data_in tag.new result ≡ unselect_reply leaves tag.old }
 {
     if !leaves {
-        return join(tag);
+        return select(tag);
     }
     tag.state = State::Ready;
     None
 }
 
 pub(crate) fn query(tag: &mut Tag, coin: bool) -> Option<Reply>
-    ensures after { tag.new ≡ record tag.old { counter = drawn coin tag.old.counter } }
-    ensures reply { data_in tag.new result ≡ in_turn (drawn coin tag.old.counter) tag.old }
+    ensures after { tag.new ≡ record tag.old { counter = counter_after_query coin tag.old.counter } }
+    ensures reply { data_in tag.new result ≡ reply_in_turn (counter_after_query coin tag.old.counter) tag.old }
 {
     if tag.counter > 0 || coin {
         tag.counter = tag.counter.saturating_add(1);
     }
-    in_turn(tag)
+    reply_in_turn(tag)
 }
 
 pub(crate) fn scroll(tag: &mut Tag) -> Option<Reply>
     ensures after { tag.new ≡ record tag.old { counter = tag.old.counter - 1 } }
-    ensures reply { data_in tag.new result ≡ in_turn (tag.old.counter - 1) tag.old }
+    ensures reply { data_in tag.new result ≡ reply_in_turn (tag.old.counter - 1) tag.old }
 {
     tag.counter = tag.counter.saturating_sub(1);
-    in_turn(tag)
+    reply_in_turn(tag)
 }
 
 // Answers if its counter is 0.
-pub(crate) fn in_turn(tag: &Tag) -> Option<Reply>
-    ensures { data_in tag.now result ≡ in_turn tag.now.counter tag.now }
+pub(crate) fn reply_in_turn(tag: &Tag) -> Option<Reply>
+    ensures { data_in tag.now result ≡ reply_in_turn tag.now.counter tag.now }
 {
     if tag.counter == 0 {
         Some(Reply::Serial)
@@ -106,7 +106,7 @@ pub(crate) fn reset(tag: &mut Tag) -> Option<Reply>
 
 // READ: the byte at an address and seven more.
 pub(crate) fn read_eight(tag: &mut Tag, address: u8) -> Option<Reply>
-    ensures after { tag.new ≡ record (moved tag.old) { permission = Some address } }
+    ensures after { tag.new ≡ record (dealt_with tag.old) { permission = Some address } }
     ensures reply { result ≡ Some (Reply.Memory address 7) }
 {
     read(tag, address, 7)
@@ -114,10 +114,10 @@ pub(crate) fn read_eight(tag: &mut Tag, address: u8) -> Option<Reply>
 
 // READ_FLEXIBLE: the byte at an address and so many more.
 pub(crate) fn read(tag: &mut Tag, address: u8, more: u8) -> Option<Reply>
-    ensures after { tag.new ≡ record (moved tag.old) { permission = Some address } }
+    ensures after { tag.new ≡ record (dealt_with tag.old) { permission = Some address } }
     ensures reply { result ≡ Some (Reply.Memory address more) }
 {
-    shift(tag);
+    deal_with(tag);
     tag.permission = Some(address);
     Some(Reply::Memory { address, more })
 }
@@ -130,7 +130,7 @@ pub(crate) fn verify(tag: &mut Tag, address: u8) -> Option<Reply>
     if !tag.mark.is_ok() {
         return None;
     }
-    shift(tag);
+    deal_with(tag);
     Some(Reply::Memory { address, more: 3 })
 }
 
@@ -138,7 +138,7 @@ pub(crate) fn write(tag: &mut Tag, address: u8, mask: u8, bytes: &[u8]) -> Optio
     ensures after { tag.new ≡ written address mask bytes.now tag.old }
     ensures reply { result ≡ Some (Reply.Status (if is_writable tag.old address then 0x00 else 0xff)) }
 {
-    shift(tag);
+    deal_with(tag);
     if !is_writable(tag, address) {
         tag.mark = WriteMark::Clear;
         return Some(Reply::Status(0xff));
@@ -173,18 +173,18 @@ pub(crate) fn lock(tag: &mut Tag, address: u8, permitted: Option<u8>) -> Option<
 }
 
 pub(crate) fn qlock(tag: &mut Tag, address: u8) -> Option<Reply>
-    ensures after { tag.new ≡ record (moved tag.old) { permission = Some address } }
+    ensures after { tag.new ≡ record (dealt_with tag.old) { permission = Some address } }
     ensures reply { result ≡ Some (Reply.Status (lock_status (locked_at tag.old address) (is_write_ok tag.old.mark))) }
 {
-    shift(tag);
+    deal_with(tag);
     tag.permission = Some(address);
     let is_locked = tag.is_locked(usize::from(address));
     Some(Reply::Status(lock_status(is_locked, tag.mark.is_ok())))
 }
 
 // Counts the tag among those that the reader has dealt with.
-fn shift(tag: &mut Tag)
-    ensures { tag.new ≡ moved tag.old }
+fn deal_with(tag: &mut Tag)
+    ensures { tag.new ≡ dealt_with tag.old }
 {
     tag.state = State::Inventoried;
     tag.identified = true;

@@ -3,21 +3,21 @@
 #![tactic(auto)]
 
 ghost use Rattle.std.specs.Prelude.{◌≡◌, length};
-ghost use Rattle.frame.specs.Openings.{opening, seen};
+ghost use Rattle.frame.specs.Openings.{opening, opening_of};
 ghost use Rattle.frame.specs.Requests.{command_of, parts_of};
-ghost use Rattle.reply.specs.Replies.{data_in, sounding, Residual};
+ghost use Rattle.reply.specs.Replies.{data_in, sealed_reply, Residual};
 ghost use Rattle.tag.specs.Cases.{FullCounters};
-ghost use Rattle.tag.specs.Flags.{Flagged};
-ghost use Rattle.tag.specs.Marks.{Remarked};
-ghost use Rattle.tag.specs.Memories.{Accounted};
-ghost use Rattle.tag.specs.Orders.{asked};
-ghost use Rattle.tag.specs.Permissions.{Permitted};
-ghost use Rattle.tag.specs.Steps.{is_meant, obeyed, answered, stepped, replied};
+ghost use Rattle.tag.specs.FlagLaws.{FlagLaw};
+ghost use Rattle.tag.specs.MarkLaws.{MarkLaw};
+ghost use Rattle.tag.specs.MemoryLaws.{MemoryLaw};
+ghost use Rattle.tag.specs.Orders.{order_of};
+ghost use Rattle.tag.specs.PermissionLaws.{PermissionLaw};
+ghost use Rattle.tag.specs.Steps.{has_serial, obeyed, answered, stepped, replied};
 
 mod commands;
 
 use commands::{
-    in_turn, is_matching, join, lock, qlock, query, read, read_eight, reset, scroll,
+    reply_in_turn, is_matching, select, lock, qlock, query, read, read_eight, reset, scroll,
     unselect_id_flag, unselect_ne, unselect_noid_flag, verify, write,
 };
 use frame::opening::{Frame, open};
@@ -29,7 +29,7 @@ use reply::Reply;
 // Steps a tag on the bytes of a frame.
 pub fn hear(tag: &mut Tag, bytes: &[u8], coin: bool) -> Option<Reply>
     ensures after { tag.new ≡ stepped (opening bytes.now) coin tag.old }
-    ensures reply { sounding (data_in tag.new result) ≡ replied (opening bytes.now) coin tag.old }
+    ensures reply { sealed_reply (data_in tag.new result) ≡ replied (opening bytes.now) coin tag.old }
 {
     step(tag, &open(bytes), coin)
 }
@@ -39,13 +39,13 @@ pub fn hear(tag: &mut Tag, bytes: &[u8], coin: bool) -> Option<Reply>
 // loop is for one command, the others fall away.
 #[inline(always)]
 pub fn step(tag: &mut Tag, opened: &Result<Frame<'_>, Refusal>, coin: bool) -> Option<Reply>
-    ensures after { tag.new ≡ stepped (seen opened.now) coin tag.old }
-    ensures reply { sounding (data_in tag.new result) ≡ replied (seen opened.now) coin tag.old }
-    ensures memory { Accounted (seen opened.now) tag.old tag.new }
-    ensures flag { Flagged (seen opened.now) tag.old tag.new }
-    ensures permission { Permitted (seen opened.now) tag.old tag.new }
-    ensures mark { Remarked (seen opened.now) tag.old tag.new }
-    ensures residue { Residual (replied (seen opened.now) coin tag.old) }
+    ensures after { tag.new ≡ stepped (opening_of opened.now) coin tag.old }
+    ensures reply { sealed_reply (data_in tag.new result) ≡ replied (opening_of opened.now) coin tag.old }
+    ensures memory { MemoryLaw (opening_of opened.now) tag.old tag.new }
+    ensures flag { FlagLaw (opening_of opened.now) tag.old tag.new }
+    ensures permission { PermissionLaw (opening_of opened.now) tag.old tag.new }
+    ensures mark { MarkLaw (opening_of opened.now) tag.old tag.new }
+    ensures residue { Residual (replied (opening_of opened.now) coin tag.old) }
     ensures counters { FullCounters }
 {
     laws(tag, opened, coin);
@@ -54,17 +54,17 @@ pub fn step(tag: &mut Tag, opened: &Result<Frame<'_>, Refusal>, coin: bool) -> O
 
 // What holds of every step, for the proof of the above: it does nothing.
 fn laws(tag: &Tag, opened: &Result<Frame<'_>, Refusal>, coin: bool)
-    ensures memory { Accounted (seen opened.now) tag.now (stepped (seen opened.now) coin tag.now) }
-    ensures flag { Flagged (seen opened.now) tag.now (stepped (seen opened.now) coin tag.now) }
-    ensures permission { Permitted (seen opened.now) tag.now (stepped (seen opened.now) coin tag.now) }
-    ensures mark { Remarked (seen opened.now) tag.now (stepped (seen opened.now) coin tag.now) }
-    ensures residue { Residual (replied (seen opened.now) coin tag.now) }
+    ensures memory { MemoryLaw (opening_of opened.now) tag.now (stepped (opening_of opened.now) coin tag.now) }
+    ensures flag { FlagLaw (opening_of opened.now) tag.now (stepped (opening_of opened.now) coin tag.now) }
+    ensures permission { PermissionLaw (opening_of opened.now) tag.now (stepped (opening_of opened.now) coin tag.now) }
+    ensures mark { MarkLaw (opening_of opened.now) tag.now (stepped (opening_of opened.now) coin tag.now) }
+    ensures residue { Residual (replied (opening_of opened.now) coin tag.now) }
     ensures counters { FullCounters }
 {
     lengths(tag);
 }
 
-// Both rows of a record are as long as their types say, which a proof knows of a slice alone.
+// Both lists of a record are as long as their types say, which a proof knows of a slice alone.
 fn lengths(tag: &Tag)
     ensures memory { length tag.now.memory ≡ 56 }
     ensures locks { length tag.now.locks ≡ 56 }
@@ -76,8 +76,8 @@ fn lengths(tag: &Tag)
 // First the mark falls and the permission is cleared, and then the frame is obeyed.
 #[inline(always)]
 fn advance(tag: &mut Tag, opened: &Result<Frame<'_>, Refusal>, coin: bool) -> Option<Reply>
-    ensures after { tag.new ≡ stepped (seen opened.now) coin tag.old }
-    ensures reply { sounding (data_in tag.new result) ≡ replied (seen opened.now) coin tag.old }
+    ensures after { tag.new ≡ stepped (opening_of opened.now) coin tag.old }
+    ensures reply { sealed_reply (data_in tag.new result) ≡ replied (opening_of opened.now) coin tag.old }
 {
     let permitted = tag.permission;
     tag.permission = None;
@@ -96,42 +96,42 @@ fn advance(tag: &mut Tag, opened: &Result<Frame<'_>, Refusal>, coin: bool) -> Op
 #[inline(always)]
 fn obey(tag: &mut Tag, request: Request<'_>, coin: bool, permitted: Option<u8>) -> Option<Reply>
     ensures after { tag.new
-        ≡ obeyed (asked (command_of request.entry) (parts_of request.entry)) coin permitted tag.old }
+        ≡ obeyed (order_of (command_of request.entry) (parts_of request.entry)) coin permitted tag.old }
     ensures reply { data_in tag.new result
-        ≡ answered (asked (command_of request.entry) (parts_of request.entry)) coin tag.old }
+        ≡ answered (order_of (command_of request.entry) (parts_of request.entry)) coin tag.old }
 {
     match (tag.state, request) {
-        (State::Ready, Request::Select(wanted)) if is_matching(tag, wanted) => join(tag),
-        (State::Singulation, Request::Select(_)) => join(tag),
+        (State::Ready, Request::Select(wanted)) if is_matching(tag, wanted) => select(tag),
+        (State::Singulation, Request::Select(_)) => select(tag),
         (State::Singulation, Request::UnselectNe(wanted)) => unselect_ne(tag, wanted),
         (State::Singulation, Request::UnselectIdFlag(_)) => unselect_id_flag(tag),
         (State::Singulation, Request::UnselectNoidFlag(_)) => unselect_noid_flag(tag),
         (State::Singulation, Request::Query) => query(tag, coin),
         (State::Singulation, Request::Scroll) => scroll(tag),
-        (State::Singulation, Request::Repeat) => in_turn(tag),
+        (State::Singulation, Request::Repeat) => reply_in_turn(tag),
         (_, Request::Reset) => reset(tag),
-        (_, Request::Read(target)) if is_meant(tag, target) => read_eight(
+        (_, Request::Read(target)) if has_serial(tag, target) => read_eight(
             tag,
             *target.address.part,
         ),
-        (_, Request::ReadFlexible(target, length)) if is_meant(tag, target) => {
+        (_, Request::ReadFlexible(target, length)) if has_serial(tag, target) => {
             read(tag, *target.address.part, *length.part)
         }
-        (_, Request::Verify(target)) if is_meant(tag, target) => verify(tag, *target.address.part),
-        (_, Request::Write(target, mask, bytes)) if is_meant(tag, target) => {
+        (_, Request::Verify(target)) if has_serial(tag, target) => verify(tag, *target.address.part),
+        (_, Request::Write(target, mask, bytes)) if has_serial(tag, target) => {
             write(tag, *target.address.part, *mask.part, bytes.part)
         }
-        (State::Inventoried, Request::Lock(target)) if is_meant(tag, target) => {
+        (State::Inventoried, Request::Lock(target)) if has_serial(tag, target) => {
             lock(tag, *target.address.part, permitted)
         }
-        (_, Request::Qlock(target)) if is_meant(tag, target) => qlock(tag, *target.address.part),
+        (_, Request::Qlock(target)) if has_serial(tag, target) => qlock(tag, *target.address.part),
         _ => None,
     }
 }
 
 // Whether a tag has the frame's serial number.
-fn is_meant(tag: &Tag, target: Target<'_>) -> bool
-    ensures { result ≡ is_meant tag.now target.entry.serial.part.now }
+fn has_serial(tag: &Tag, target: Target<'_>) -> bool
+    ensures { result ≡ has_serial tag.now target.entry.serial.part.now }
 {
     tag.has_serial(target.serial.part)
 }

@@ -1,12 +1,12 @@
-// Plays the life of one tag: prints what it is sent, what it replies, and its record after that.
+// Shows the life of one tag: prints what it is sent, what it replies, and its record after that.
 #![tactic(auto)]
 
 use protocol::command::{Command, OWN};
 use record::Tag;
 use reply::Reply;
-use spelling::hexadecimal::Hex;
-use spelling::sample::{sample_tag, to_tag};
-use spelling::sent::{framed, replied};
+use notation::hexadecimal::Hex;
+use notation::sample::{sample_tag, to_tag};
+use notation::encoding::{make_frame, write_reply};
 use std::process::ExitCode;
 use tag::hear;
 
@@ -65,13 +65,13 @@ const LIFE: [Event; 28] = [
 
 // A tag, and where its life is printed.
 #[derive(Drop)]
-struct Player<'a> {
+struct LifePrinter<'a> {
     rt: &'a HostRuntime,
     tag: Tag,
 }
 
-impl Player<'_> {
-    fn play(&mut self, event: Event) -> anyhow::Result<()> {
+impl LifePrinter<'_> {
+    fn print_event(&mut self, event: Event) -> anyhow::Result<()> {
         // A match and no closure in each event, since a life is a constant table.
         match event {
             Event::ToAll(command, parameters) => self.send(command, parameters),
@@ -85,12 +85,12 @@ impl Player<'_> {
     }
 
     fn send(&mut self, command: Command, parameters: &[u8]) -> anyhow::Result<()> {
-        let frame = framed(self.rt.alloc(), command.code(), parameters)?;
+        let frame = make_frame(self.rt.alloc(), command.code(), parameters)?;
         self.say(command.name(), frame.as_slice())
     }
 
     fn send_damaged(&mut self, command: Command) -> anyhow::Result<()> {
-        let mut frame = framed(self.rt.alloc(), command.code(), &[])?;
+        let mut frame = make_frame(self.rt.alloc(), command.code(), &[])?;
         if let Some(last) = frame.last_mut() {
             *last ^= 1;
         }
@@ -112,7 +112,7 @@ impl Player<'_> {
 
     // Prints what was sent, the reply to it, and the tag's record now.
     fn print(&self, sent: &str, reply: Option<Reply>) -> anyhow::Result<()> {
-        let bytes = replied(self.rt.alloc(), &self.tag, reply)?;
+        let bytes = write_reply(self.rt.alloc(), &self.tag, reply)?;
         let reply = format!(in self.rt.alloc(); "{}", Hex::spaced(bytes.as_slice()))?;
         let state = self.tag.state;
         let flag = u8::from(self.tag.identified);
@@ -126,7 +126,7 @@ impl Player<'_> {
 }
 
 fn run(rt: &HostRuntime) -> anyhow::Result<()> {
-    let mut player = Player {
+    let mut printer = LifePrinter {
         rt,
         tag: sample_tag(),
     };
@@ -134,7 +134,7 @@ fn run(rt: &HostRuntime) -> anyhow::Result<()> {
         "sent                                                                    reply                          state        flag  counter  mark"
     )?;
     for event in LIFE {
-        player.play(event)?;
+        printer.print_event(event)?;
     }
     Ok(())
 }

@@ -1,14 +1,14 @@
 -- The listings, computed. Assumes nothing.
 use Rattle.std.proofs.Common.{inl, inr}
 use Rattle.crc.specs.Check.{moved_up, bit_taken, bits, byte_taken, sealed}
-use Rattle.protocol.specs.Commands.{named}
-use Rattle.frame.specs.Openings.{opening, is_sealed, front, parameters_of}
+use Rattle.protocol.specs.Commands.{command_with_code}
+use Rattle.frame.specs.Openings.{opening, is_sealed, without_check_value, parameters_of}
 use Rattle.record.specs.Records.{bytes_from}
 use Rattle.field.specs.Sends.{stepped_all, on_air, padded}
 use Rattle.worked_cases.specs.Field.{Sends, Coins, MixedAirs, HeardAirs, HearingsListed, HeardTogether}
 
 pub sends : Sends
-unfolding Sends stepped_all on_air padded opening is_sealed front parameters_of named moved_up bit_taken bits byte_taken sealed bytes_from
+unfolding Sends stepped_all on_air padded opening is_sealed without_check_value parameters_of command_with_code moved_up bit_taken bits byte_taken sealed bytes_from
 sends = search
 
 pub coins : Coins

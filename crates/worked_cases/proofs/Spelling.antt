@@ -3,14 +3,14 @@ use Rattle.std.proofs.Common.{◌≡◌, ℕ, false, Bool, List, [], Ok, inl, in
 use Rattle.std.specs.Fmt.{digits}
 use Rattle.std.specs.Result.{result_unwrap_or}
 use Rattle.crc.specs.Check.{moved_up, bit_taken, bits, byte_taken, sealed}
-use Rattle.protocol.specs.Commands.{named}
+use Rattle.protocol.specs.Commands.{command_with_code}
 use Rattle.frame.specs.Makings.{making}
 use Rattle.hex.specs.Hex.{decode_of, decode_pairs, decode_sized, encode_with}
 use Rattle.record.specs.Records.{bytes_from}
-use Rattle.spelling.specs.Hexadecimal.{has_small}
-use Rattle.spelling.specs.Words.{locks_of, SpellsLocks}
+use Rattle.notation.specs.Hexadecimal.{has_small}
+use Rattle.notation.specs.Words.{locks_of, SpellsLocks}
 use Rattle.protocol.specs.declared.refusal.Refusal.TheVariants as refusal
-use Rattle.spelling.proofs.Capitals.{spells_decoded, spells_sized}
+use Rattle.notation.proofs.Capitals.{spells_decoded, spells_sized}
 use Rattle.worked_cases.specs.Spelling.{ShownBytes, SmallLetters, SpeltBytes, SpeltArrays, SpeltSingle, SpeltBits}
 use Rattle.worked_cases.specs.Spelling.{SpeltMarks, SpeltPermissions, SpeltLocks, ErrorsListed, ErrorsOfHex}
 use Rattle.worked_cases.specs.Spelling.{LinesListed, NumberedTags, SampleListed, FramesListed, NoFramesListed}
@@ -81,11 +81,11 @@ unfolding SampleListed
 sample_listed = search
 
 pub frames_listed : FramesListed
-unfolding FramesListed making named moved_up bit_taken bits byte_taken sealed
+unfolding FramesListed making command_with_code moved_up bit_taken bits byte_taken sealed
 frames_listed = search
 
 pub no_frames_listed : NoFramesListed
-unfolding NoFramesListed making named
+unfolding NoFramesListed making command_with_code
 no_frames_listed = ((refusal.Code, refl, refl), ((refusal.Length, refl, refl), ((refusal.Length, refl, refl), tt)))
 
 pub replies_listed : RepliesListed

@@ -4,7 +4,7 @@ use Rattle.std.specs.Prelude.{◌≡◌, ℕ, List, [], ◌∷◌, Some, None, O
 use Rattle.std.specs.List.{AllByRecursion}
 use Rattle.record.specs.declared.State.TheVariants.{Ready, Singulation, Inventoried}
 use Rattle.record.specs.declared.Tag.{Tag}
-use Rattle.field.specs.Sends.{gapped_all}
+use Rattle.field.specs.Sends.{after_gap_all}
 use Rattle.bench.specs.Tables.{place_of}
 use Rattle.worked_cases.specs.Words.{bytes, flagged, numbered, numbered_from}
 
@@ -34,7 +34,7 @@ Finds =
 unfoldable pub GapsForAll : Type 0
 GapsForAll =
     AllByRecursion {X = List Tag × ℕ × List Tag}
-    (λ (before, microseconds, after). gapped_all microseconds before ≡ after)
+    (λ (before, microseconds, after). after_gap_all microseconds before ≡ after)
     (([], 249, []) ∷ ([], 250, []) ∷ ([], 3999999, []) ∷ ([], 4000000, [])
     ∷ (flagged (numbered 0x01 Inventoried 0xff) ∷ [], 249, flagged (numbered 0x01 Inventoried 0xff) ∷ [])
     ∷ (flagged (numbered 0x01 Inventoried 0xff) ∷ [], 250, flagged (numbered 0x01 Ready 0x00) ∷ [])

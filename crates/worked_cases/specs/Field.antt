@@ -10,13 +10,13 @@ use Rattle.record.specs.declared.State.TheVariants.{Ready, Singulation, Inventor
 use Rattle.record.specs.declared.Tag.{Tag}
 use Rattle.field.specs.declared.hearing.Hearing.{Hearing}
 use Rattle.field.specs.declared.hearing.Hearing.TheVariants.{Silence, Lone, Clash}
-use Rattle.field.specs.Airs.{Air, silent, one, many, mixed, hearing_number, hearing_name, MayHear, plainly, together}
-use Rattle.field.specs.Sends.{coin_at, on_air, is_short, sent_to, left_in}
+use Rattle.field.specs.Airs.{Air, silent, one, many, mixed, hearing_number, hearing_name, MayHear, plain_hearing, together}
+use Rattle.field.specs.Sends.{coin_at, on_air, is_short, tags_after_send, buffer_after_send}
 use Rattle.worked_cases.specs.Words.{bytes, used, numbered, numbered_from}
 
 -- What a send gives where every lone reply is heard as lone.
 abbrev pub given : ℕ → Air → Result Hearing Refusal
-given room air = cond (is_short room) (Err Buffer) (Ok (plainly air))
+given room air = cond (is_short room) (Err Buffer) (Ok (plain_hearing air))
 
 -- Tags, a frame, a row of coins, how long the reply buffer is; then the tags after the send, what is heard where every
 -- lone reply is heard as lone, and the buffer after it.
@@ -26,8 +26,8 @@ SendCase = List Tag × String × ℕ × ℕ × List Tag × Result Hearing Refusa
 abbrev pub Sent : SendCase → Type 0
 Sent (before, frame, row, room, after, result, left) =
     let air = on_air (opening (bytes frame)) row before in
-    (sent_to room (bytes frame) row before ≡ after) × (given room air ≡ result)
-    × (left_in result air (used room) ≡ left)
+    (tags_after_send room (bytes frame) row before ≡ after) × (given room air ≡ result)
+    × (buffer_after_send result air (used room) ≡ left)
 
 abbrev pub send : List Tag → String → ℕ → ℕ → List Tag → Result Hearing Refusal → List ℕ → SendCase
 send before frame row room after result left = (before, frame, row, room, after, result, left)
@@ -96,7 +96,7 @@ MixedAirs =
 -- What is on the air, what is heard of it by a bench or by a spoiler of all, and what a bench hears.
 unfoldable pub HeardAirs : Type 0
 HeardAirs =
-    AllByRecursion {X = Air × Hearing × Hearing} (λ (air, heard, plain). MayHear air heard × (plainly air ≡ plain))
+    AllByRecursion {X = Air × Hearing × Hearing} (λ (air, heard, plain). MayHear air heard × (plain_hearing air ≡ plain))
     ((silent, Silence, Silence) ∷ (one (replicate 7 0x00 ++ bytes "01DEE0"), Lone, Lone)
     ∷ (one (replicate 7 0x00 ++ bytes "01DEE0"), Clash, Lone) ∷ (many, Clash, Clash) ∷ [])
 

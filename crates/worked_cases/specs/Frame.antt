@@ -7,11 +7,11 @@ use Rattle.protocol.specs.declared.command.Command.TheVariants.{Query, Scroll, R
 use Rattle.protocol.specs.declared.command.Command.TheVariants.{Qlock, ReadFlexible, Write}
 use Rattle.protocol.specs.declared.command.Parameter.{Parameter}
 use Rattle.protocol.specs.declared.command.Parameter.TheVariants.{Serial, Address, Mask, Word, Data, Length, Ignored}
-use Rattle.protocol.specs.Refusals.{Answer, told, denied}
-use Rattle.frame.specs.Makings.{making, answering, leaving}
+use Rattle.protocol.specs.Refusals.{WriteResult, wrote, not_written}
+use Rattle.frame.specs.Makings.{making, result_of, buffer_after}
 use Rattle.frame.specs.Openings.{Opening, refused, opened, opening}
 use Rattle.frame.specs.Parts.{Part}
-use Rattle.frame.specs.Writing.{laid}
+use Rattle.frame.specs.Writing.{overlaid}
 use Rattle.worked_cases.specs.Words.{bytes, used}
 
 abbrev pub part : Parameter → ℕ → String → Part
@@ -61,33 +61,33 @@ RefusedFrames =
 -- room one byte short, and with what makes no frame.
 unfoldable pub MadeFrames : Type 0
 MadeFrames =
-    AllByRecursion {X = ℕ × String × ℕ × Answer × List ℕ}
+    AllByRecursion {X = ℕ × String × ℕ × WriteResult × List ℕ}
     (λ (code, parameters, room, answer, after).
-    (answering (making code (bytes parameters) room) ≡ answer)
-    × (leaving (making code (bytes parameters) room) (used room) ≡ after))
-    ((0x09, "", 3, told 3, bytes "098F26") ∷ (0x09, "", 2, denied 5, bytes "A5A5") ∷ (0x09, "", 0, denied 5, [])
-    ∷ (0x09, "", 8, told 3, bytes "098F26A5A5A5A5A5")
-    ∷ (0x00, "30313233343536373839", 13, told 13, bytes "0030313233343536373839B7A8")
-    ∷ (0x00, "30313233343536373839", 12, denied 5, replicate 12 0xa5) ∷ (0x19, "3031", 6, told 5, bytes "193031CD76A5")
-    ∷ (0x51, "30313233343536373839", 13, told 13, bytes "51303132333435363738397E09")
-    ∷ (0x1b, "303132333435363738393A3B3C3D", 17, told 17, bytes "1B303132333435363738393A3B3C3D9304")
-    ∷ (0x1b, "303132333435363738393A3B3C3D", 16, denied 5, replicate 16 0xa5)
+    (result_of (making code (bytes parameters) room) ≡ answer)
+    × (buffer_after (making code (bytes parameters) room) (used room) ≡ after))
+    ((0x09, "", 3, wrote 3, bytes "098F26") ∷ (0x09, "", 2, not_written 5, bytes "A5A5") ∷ (0x09, "", 0, not_written 5, [])
+    ∷ (0x09, "", 8, wrote 3, bytes "098F26A5A5A5A5A5")
+    ∷ (0x00, "30313233343536373839", 13, wrote 13, bytes "0030313233343536373839B7A8")
+    ∷ (0x00, "30313233343536373839", 12, not_written 5, replicate 12 0xa5) ∷ (0x19, "3031", 6, wrote 5, bytes "193031CD76A5")
+    ∷ (0x51, "30313233343536373839", 13, wrote 13, bytes "51303132333435363738397E09")
+    ∷ (0x1b, "303132333435363738393A3B3C3D", 17, wrote 17, bytes "1B303132333435363738393A3B3C3D9304")
+    ∷ (0x1b, "303132333435363738393A3B3C3D", 16, not_written 5, replicate 16 0xa5)
     ∷ (
       0x1b,
       "303132333435363738393A3B3C3D",
       24,
-      told 17,
+      wrote 17,
       bytes "1B303132333435363738393A3B3C3D9304" ++ replicate 7 0xa5,
     )
-    ∷ (0x1b, "303132333435363738393A3B3C", 17, denied 4, replicate 17 0xa5)
-    ∷ (0x1b, "303132333435363738393A3B3C3D3E", 0, denied 4, []) ∷ (0x08, "30", 8, denied 4, replicate 8 0xa5)
-    ∷ (0x01, "", 8, denied 3, replicate 8 0xa5) ∷ (0xff, "303132333435363738393A3B3C3D3E3F40", 0, denied 3, []) ∷ [])
+    ∷ (0x1b, "303132333435363738393A3B3C", 17, not_written 4, replicate 17 0xa5)
+    ∷ (0x1b, "303132333435363738393A3B3C3D3E", 0, not_written 4, []) ∷ (0x08, "30", 8, not_written 4, replicate 8 0xa5)
+    ∷ (0x01, "", 8, not_written 3, replicate 8 0xa5) ∷ (0xff, "303132333435363738393A3B3C3D3E3F40", 0, not_written 3, []) ∷ [])
 
 -- How long a buffer is, a place in it, bytes, and the buffer once they are laid over it there.
 unfoldable pub LaidBytes : Type 0
 LaidBytes =
     AllByRecursion {X = ℕ × ℕ × String × List ℕ}
-    (λ (room, place, given, after). laid (used room) place (bytes given) ≡ after)
+    (λ (room, place, given, after). overlaid (used room) place (bytes given) ≡ after)
     ((0, 0, "", []) ∷ (4, 0, "", bytes "A5A5A5A5") ∷ (4, 4, "", bytes "A5A5A5A5")
     ∷ (4, 0, "30313233", bytes "30313233") ∷ (4, 3, "30", bytes "A5A5A530")
     ∷ (9, 2, "303132", bytes "A5A5303132A5A5A5A5") ∷ [])

@@ -6,8 +6,8 @@ use Rattle.record.specs.declared.Tag.{Tag}
 use Rattle.field.specs.declared.hearing.Hearing.{Hearing}
 use Rattle.field.specs.declared.hearing.Hearing.TheVariants.{Silence, Lone, Clash}
 use Rattle.field.specs.Sends.{row_behind}
-use Rattle.layers.specs.Pairs.{fits, paired}
-use Rattle.layers.specs.Spoilers.{lones, spoiled}
+use Rattle.composite_fields.specs.Pairs.{fits, paired}
+use Rattle.composite_fields.specs.Spoilers.{lone_count, spoiled}
 use Rattle.worked_cases.specs.Words.{numbered, numbered_from}
 
 -- The tags of a pair, if it is made.
@@ -48,7 +48,7 @@ RowsBehind =
 -- What is heard from below, and how many lone replies that is.
 unfoldable pub LonesCounted : Type 0
 LonesCounted =
-    AllByRecursion {X = Hearing × ℕ} (λ (below, count). lones below ≡ count)
+    AllByRecursion {X = Hearing × ℕ} (λ (below, count). lone_count below ≡ count)
     ((Silence, 0) ∷ (Lone, 1) ∷ (Clash, 0) ∷ [])
 
 -- A period, which lone reply it would be, what is heard from below, and what is heard.

@@ -10,7 +10,7 @@ use Rattle.protocol.specs.declared.command.Parameter.{Parameter}
 use Rattle.protocol.specs.declared.command.Parameter.TheVariants.{Serial, Address, Mask, Word, Data, Length, Ignored}
 use Rattle.protocol.specs.declared.refusal.Refusal.{Refusal}
 use Rattle.protocol.specs.declared.refusal.Refusal.TheVariants as refusal
-use Rattle.protocol.specs.Commands.{code_of, layout, size_of, length_of, commands, named, entry_of, first_entry}
+use Rattle.protocol.specs.Commands.{code_of, layout, size_of, length_of, commands, command_with_code, entry_of, first_entry}
 use Rattle.protocol.specs.Names.{command_name, parameter_name, refusal_name}
 use Rattle.protocol.specs.Refusals.{number_of}
 
@@ -20,7 +20,7 @@ CommandsListed =
     AllByRecursion {X = Command × String × ℕ × List Parameter × ℕ}
     (λ (command, name, code, parameters, length).
     (command_name command ≡ codes name) × (code_of command ≡ code) × (layout command ≡ parameters)
-    × (length_of command ≡ length) × (named code ≡ Some command)
+    × (length_of command ≡ length) × (command_with_code code ≡ Some command)
     × (first_entry code (map entry_of commands)
     ≡ Some (record { command = command; code = code; length = length })))
     ((Select, "SELECT", 0x00, Address ∷ Mask ∷ Word ∷ [], 13)
@@ -36,7 +36,7 @@ CommandsListed =
 -- Codes that no command has, most of them one bit away from one.
 unfoldable pub UnknownCodes : Type 0
 UnknownCodes =
-    AllByRecursion (λ code. (named code ≡ None) × (first_entry code (map entry_of commands) ≡ None))
+    AllByRecursion (λ code. (command_with_code code ≡ None) × (first_entry code (map entry_of commands) ≡ None))
     (0x01 ∷ 0x04 ∷ 0x0b ∷ 0x0d ∷ 0x18 ∷ 0x1c ∷ 0x50 ∷ 0x80 ∷ 0x9b ∷ 0xff ∷ [])
 
 -- The parameters, with their names and how many bytes each has.

@@ -8,7 +8,7 @@ use Rattle.record.specs.declared.WriteMark.{WriteMark}
 use Rattle.record.specs.declared.WriteMark.TheVariants.{Clear, Fading, Fresh}
 use Rattle.record.specs.declared.Tag.{Tag}
 use Rattle.record.specs.Alike.{alike}
-use Rattle.record.specs.Gaps.{gapped}
+use Rattle.record.specs.Gaps.{after_gap}
 use Rattle.record.specs.Masks.{selects, matches, stored}
 use Rattle.record.specs.Names.{state_name}
 use Rattle.record.specs.Records.{byte_at, locked_at, serial_of, mark_number, fallen, is_write_ok, new_tag}
@@ -90,7 +90,7 @@ States =
 -- A tag, a gap in microseconds, and the tag after it.
 unfoldable pub Gaps : Type 0
 Gaps =
-    AllByRecursion {X = Tag × ℕ × Tag} (λ (before, microseconds, after). gapped microseconds before ≡ after)
+    AllByRecursion {X = Tag × ℕ × Tag} (λ (before, microseconds, after). after_gap microseconds before ≡ after)
     ((busy Singulation, 0, busy Singulation) ∷ (busy Singulation, 249, busy Singulation)
     ∷ (busy Singulation, 250, flagged_in Ready 0x00) ∷ (busy Singulation, 3999999, flagged_in Ready 0x00)
     ∷ (busy Singulation, 4000000, tag_in Ready 0x00) ∷ (busy Singulation, 4294967295, tag_in Ready 0x00)

@@ -2,8 +2,8 @@
 use Rattle.std.specs.Prelude.{◌≡◌, ℕ, List, [], ◌∷◌, ◌++◌, replicate}
 use Rattle.std.specs.List.{AllByRecursion, range_with_len}
 use Rattle.crc.specs.Check.{sealed}
-use Rattle.protocol.specs.Refusals.{Answer, told, denied}
-use Rattle.frame.specs.Makings.{answering, leaving, writing}
+use Rattle.protocol.specs.Refusals.{WriteResult, wrote, not_written}
+use Rattle.frame.specs.Makings.{result_of, buffer_after, writing}
 use Rattle.record.specs.declared.State.TheVariants.{Ready}
 use Rattle.record.specs.Records.{bytes_from}
 use Rattle.reply.specs.declared.Reply.{Reply}
@@ -27,17 +27,17 @@ Stretches =
 -- Replies of each kind, from one byte to 256, how long the buffer is, the answer of writing, and the buffer after it.
 unfoldable pub WrittenReplies : Type 0
 WrittenReplies =
-    AllByRecursion {X = Reply × ℕ × Answer × List ℕ}
-    (λ (reply, room, answer, after). (answering (writing (told_by_plain reply) room) ≡ answer)
-    × (leaving (writing (told_by_plain reply) room) (used room) ≡ after))
-    ((Serial, 10, told 10, bytes "40414243444546478E0F") ∷ (Serial, 9, denied 5, replicate 9 0xa5)
-    ∷ (Serial, 0, denied 5, []) ∷ (Serial, 12, told 10, bytes "40414243444546478E0FA5A5")
-    ∷ (Memory 0x00 0, 3, told 3, bytes "4056CB") ∷ (Memory 0x00 0, 2, denied 5, bytes "A5A5")
-    ∷ (Memory 0x34 3, 6, told 6, bytes "747576776CCC") ∷ (Memory 0x34 7, 10, told 10, bytes "74757677000000003E49")
-    ∷ (Memory 0x37 1, 5, told 4, bytes "7700733EA5") ∷ (Memory 0x38 7, 10, told 10, replicate 8 0x00 ++ bytes "CEC1")
-    ∷ (Memory 0xff 0, 3, told 3, bytes "001E0F")
-    ∷ (Memory 0x00 255, 258, told 258, range_with_len 0x40 56 ++ replicate 200 0x00 ++ bytes "846C")
-    ∷ (Memory 0x00 255, 257, denied 5, replicate 257 0xa5) ∷ (Status 0x00, 3, told 3, bytes "001E0F")
-    ∷ (Status 0x00, 2, denied 5, bytes "A5A5") ∷ (Status 0x00, 0, denied 5, [])
-    ∷ (Status 0x01, 3, told 3, bytes "010E2E") ∷ (Status 0xfe, 3, told 3, bytes "FE10DE")
-    ∷ (Status 0xff, 5, told 3, bytes "FF00FFA5A5") ∷ [])
+    AllByRecursion {X = Reply × ℕ × WriteResult × List ℕ}
+    (λ (reply, room, answer, after). (result_of (writing (told_by_plain reply) room) ≡ answer)
+    × (buffer_after (writing (told_by_plain reply) room) (used room) ≡ after))
+    ((Serial, 10, wrote 10, bytes "40414243444546478E0F") ∷ (Serial, 9, not_written 5, replicate 9 0xa5)
+    ∷ (Serial, 0, not_written 5, []) ∷ (Serial, 12, wrote 10, bytes "40414243444546478E0FA5A5")
+    ∷ (Memory 0x00 0, 3, wrote 3, bytes "4056CB") ∷ (Memory 0x00 0, 2, not_written 5, bytes "A5A5")
+    ∷ (Memory 0x34 3, 6, wrote 6, bytes "747576776CCC") ∷ (Memory 0x34 7, 10, wrote 10, bytes "74757677000000003E49")
+    ∷ (Memory 0x37 1, 5, wrote 4, bytes "7700733EA5") ∷ (Memory 0x38 7, 10, wrote 10, replicate 8 0x00 ++ bytes "CEC1")
+    ∷ (Memory 0xff 0, 3, wrote 3, bytes "001E0F")
+    ∷ (Memory 0x00 255, 258, wrote 258, range_with_len 0x40 56 ++ replicate 200 0x00 ++ bytes "846C")
+    ∷ (Memory 0x00 255, 257, not_written 5, replicate 257 0xa5) ∷ (Status 0x00, 3, wrote 3, bytes "001E0F")
+    ∷ (Status 0x00, 2, not_written 5, bytes "A5A5") ∷ (Status 0x00, 0, not_written 5, [])
+    ∷ (Status 0x01, 3, wrote 3, bytes "010E2E") ∷ (Status 0xfe, 3, wrote 3, bytes "FE10DE")
+    ∷ (Status 0xff, 5, wrote 3, bytes "FF00FFA5A5") ∷ [])

@@ -4,8 +4,8 @@ use Rattle.std.specs.Prelude.{◌≡◌, ℕ, List, [], ◌∷◌, ◌++◌, map
 use Rattle.std.specs.List.{flat_map, AllByRecursion}
 use Rattle.protocol.specs.declared.command.Command.{Command}
 use Rattle.protocol.specs.declared.command.Command.TheVariants.{Select, Query, Scroll, Write}
-use Rattle.protocol.specs.Refusals.{Answer, told, denied}
-use Rattle.frame.specs.Makings.{answering, leaving, writing}
+use Rattle.protocol.specs.Refusals.{WriteResult, wrote, not_written}
+use Rattle.frame.specs.Makings.{result_of, buffer_after, writing}
 use Rattle.field.specs.declared.hearing.Hearing.{Hearing}
 use Rattle.field.specs.declared.hearing.Hearing.TheVariants.{Silence, Lone, Clash}
 use Rattle.slot.specs.declared.ending.End.TheVariants.{Whole, Stopped}
@@ -84,8 +84,8 @@ SheetsPrinted =
 -- How long a buffer is, the answer of writing a sheet of one line, and the buffer after it.
 unfoldable pub SheetRooms : Type 0
 SheetRooms =
-    AllByRecursion {X = ℕ × Answer × List ℕ}
-    (λ (room, answer, after). (answering (writing short_sheet room) ≡ answer)
-    × (leaving (writing short_sheet room) (used room) ≡ after))
-    ((31, told 31, lines ("     0     1     0     0     3" ∷ [])) ∷ (30, denied 5, replicate 30 0xa5)
-    ∷ (0, denied 5, []) ∷ (33, told 31, lines ("     0     1     0     0     3" ∷ []) ++ bytes "A5A5") ∷ [])
+    AllByRecursion {X = ℕ × WriteResult × List ℕ}
+    (λ (room, answer, after). (result_of (writing short_sheet room) ≡ answer)
+    × (buffer_after (writing short_sheet room) (used room) ≡ after))
+    ((31, wrote 31, lines ("     0     1     0     0     3" ∷ [])) ∷ (30, not_written 5, replicate 30 0xa5)
+    ∷ (0, not_written 5, []) ∷ (33, wrote 31, lines ("     0     1     0     0     3" ∷ []) ++ bytes "A5A5") ∷ [])

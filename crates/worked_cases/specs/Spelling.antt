@@ -12,13 +12,13 @@ use Rattle.record.specs.declared.WriteMark.{WriteMark}
 use Rattle.record.specs.declared.WriteMark.TheVariants.{Clear, Fading, Fresh}
 use Rattle.reply.specs.declared.Reply.{Reply}
 use Rattle.reply.specs.declared.Reply.TheVariants.{Serial, Memory, Status}
-use Rattle.spelling.specs.declared.misspelt.Misspelt.{Misspelt}
-use Rattle.spelling.specs.declared.misspelt.Misspelt.TheVariants as misspelt
-use Rattle.spelling.specs.Hexadecimal.{shown, has_small, SpellsBytes, SpellsArray, SpellsByte}
-use Rattle.spelling.specs.Misspellings.{misspelt_text, line_text, of_hex}
-use Rattle.spelling.specs.Samples.{numbered_serial, numbered_memory, sample_serial, sample_memory}
-use Rattle.spelling.specs.Sent.{IsFrame, IsNoFrame, reply_bytes}
-use Rattle.spelling.specs.Words.{SpellsBit, SpellsMark, SpellsPermission, SpellsLocks}
+use Rattle.notation.specs.declared.error.NotationError.{NotationError}
+use Rattle.notation.specs.declared.error.NotationError.TheVariants as misspelt
+use Rattle.notation.specs.Hexadecimal.{shown, has_small, SpellsBytes, SpellsArray, SpellsByte}
+use Rattle.notation.specs.Errors.{error_text, line_text, of_hex}
+use Rattle.notation.specs.Samples.{numbered_serial, numbered_memory, sample_serial, sample_memory}
+use Rattle.notation.specs.Encodings.{IsFrame, IsNoFrame, reply_bytes}
+use Rattle.notation.specs.Words.{SpellsBit, SpellsMark, SpellsPermission, SpellsLocks}
 use Rattle.worked_cases.specs.Words.{bytes, locked_in, tag_in}
 
 -- What stands between bytes, the bytes, and how they are shown.
@@ -84,7 +84,7 @@ SpeltLocks =
 -- The errors, and what is printed of each.
 unfoldable pub ErrorsListed : Type 0
 ErrorsListed =
-    AllByRecursion {X = Misspelt × String} (λ (error, text). misspelt_text error ≡ codes text)
+    AllByRecursion {X = NotationError × String} (λ (error, text). error_text error ≡ codes text)
     ((misspelt.Bytes, "not the bytes that are wanted, in hexadecimal") ∷ (misspelt.Bit, "neither 0 nor 1")
     ∷ (misspelt.Mark, "no write mark") ∷ (misspelt.Missing, "a word is missing")
     ∷ (misspelt.Surplus, "a word too many") ∷ (misspelt.Memory, "out of memory")
@@ -94,7 +94,7 @@ ErrorsListed =
 -- What the errors of reading hexadecimal are here.
 unfoldable pub ErrorsOfHex : Type 0
 ErrorsOfHex =
-    AllByRecursion {X = FromHexError × Misspelt} (λ (error, here). of_hex error ≡ here)
+    AllByRecursion {X = FromHexError × NotationError} (λ (error, here). of_hex error ≡ here)
     ((InvalidHexCharacter 71 1, misspelt.Bytes) ∷ (OddLength, misspelt.Bytes) ∷ (InvalidStringLength, misspelt.Bytes)
     ∷ (OutOfMemory, misspelt.Memory) ∷ [])
 
@@ -131,7 +131,7 @@ FramesListed =
 -- Codes with parameters that make no frame, and the error of each.
 unfoldable pub NoFramesListed : Type 0
 NoFramesListed =
-    AllByRecursion {X = ℕ × String × Misspelt} (λ (code, parameters, error). IsNoFrame code (bytes parameters) error)
+    AllByRecursion {X = ℕ × String × NotationError} (λ (code, parameters, error). IsNoFrame code (bytes parameters) error)
     ((0x01, "", misspelt.Refused refusal.Code) ∷ (0x09, "30", misspelt.Refused refusal.Length)
     ∷ (0x1b, "303132333435363738393A3B3C3D3E", misspelt.Refused refusal.Length) ∷ [])
 

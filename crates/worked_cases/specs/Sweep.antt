@@ -13,9 +13,9 @@ use Rattle.slot.specs.declared.ending.End.TheVariants.{Whole, Stopped}
 use Rattle.slot.specs.declared.ending.Report.{Report}
 use Rattle.slot.specs.declared.ending.Stop.TheVariants.{Spent, Full}
 use Rattle.slot.specs.Commands.{query}
-use Rattle.slot.specs.Rules.{Setting, Play, Deed, in_clash, beginning, stops, opens, next_deed, played}
-use Rattle.slot.specs.Rules.{Heard, replayed}
-use Rattle.sweep.specs.Fates.{fate_of, due_serials}
+use Rattle.slot.specs.Rules.{Setting, SweepState, Action, in_clash, beginning, stops, opens, next_action, run_by}
+use Rattle.slot.specs.Rules.{MayHearAll, replayed}
+use Rattle.sweep.specs.Effects.{tag_after_sweep, due_serials}
 use Rattle.sweep.specs.Tallies.{enough}
 use Rattle.sweep.specs.Whole.{Reported}
 use Rattle.worked_cases.specs.Words.{bytes, flagged, numbered, carrier, carriers_from, slot_row, report_of}
@@ -25,7 +25,7 @@ abbrev pub setting_of : List ℕ → ℕ → ℕ → ℕ → Setting
 setting_of rows budget slot_room serial_room =
     record { coins = rows; budget = budget; slot_room = slot_room; serial_room = serial_room }
 
--- What a sweep is given, the tags before it, and what is heard at each deed; then its report, its slots and serial
+-- What a sweep is given, the tags before it, and what is heard at each action; then its report, its slots and serial
 -- numbers, the tags after it, and how many of its commands are READs.
 abbrev pub SweepCase : Type 0
 SweepCase =
@@ -37,21 +37,21 @@ swept set before hearings report slots serials after reads =
     (set, before, hearings, report, slots, serials, after, reads)
 
 -- A sweep that has ended gives what the case tells.
-abbrev pub Gives : SweepCase → Play → Type 0
+abbrev pub Gives : SweepCase → SweepState → Type 0
 Gives (set, before, hearings, report, slots, serials, after, reads) play =
     Reported (record { report = report; slots = map slot_row slots; serials = map bytes serials }) after play
     × (play.reads ≡ reads)
 
 -- These hearings may come, and with them it gives that.
 abbrev pub PlaysOut : SweepCase → Type 0
-PlaysOut x = Heard x.0 x.2 (beginning x.1) × Gives x (played x.0 x.2 (beginning x.1))
+PlaysOut x = MayHearAll x.0 x.2 (beginning x.1) × Gives x (run_by x.0 x.2 (beginning x.1))
 
 -- It gives that too by the rule alone, where every lone reply is heard as lone.
 abbrev pub Replays : SweepCase → Type 0
 Replays x = Gives x (replayed x.0 (enough x.0) (beginning x.1))
 
 -- A sweep that has heard nothing but clashes, as so many groups wait. What the reader does next hangs on no tag.
-abbrev pub clashing : ℕ → Play
+abbrev pub clashing : ℕ → SweepState
 clashing groups =
     record {
       phase = in_clash;
@@ -163,7 +163,7 @@ SpoiledSweeps =
 -- What a sweep is given, how many groups wait behind a clash, and what the reader does: 7 comes before 8 and 9.
 unfoldable pub DeepSweeps : Type 0
 DeepSweeps =
-    AllByRecursion {X = Setting × ℕ × Deed} (λ (set, groups, deed). next_deed set (clashing groups) ≡ deed)
+    AllByRecursion {X = Setting × ℕ × Action} (λ (set, groups, deed). next_action set (clashing groups) ≡ deed)
     ((setting_of (0x0 ∷ []) 256 256 0, 254, opens Query query 0x0 255 1)
     ∷ (setting_of (0x0 ∷ []) 65535 257 0, 255, stops 7) ∷ (setting_of (0x0 ∷ []) 256 256 0, 255, stops 7)
     ∷ (setting_of (0x0 ∷ []) 255 256 0, 254, stops 8) ∷ (setting_of (0x0 ∷ []) 256 255 0, 254, stops 9)
@@ -173,7 +173,7 @@ DeepSweeps =
 unfoldable pub WorkedFates : Type 0
 WorkedFates =
     AllByRecursion {X = List Tag × List Tag × List String}
-    (λ (before, after, serials). (map fate_of before ≡ after) × (due_serials before ≡ map bytes serials))
+    (λ (before, after, serials). (map tag_after_sweep before ≡ after) × (due_serials before ≡ map bytes serials))
     (([], [], [])
     ∷ (carrier 0x01 Ready false 0x00 ∷ [], carrier 0x01 Inventoried true 0x00 ∷ [], "EF04000000000001" ∷ [])
     ∷ (

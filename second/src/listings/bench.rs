@@ -14,7 +14,7 @@ use Rattle.std.specs.Prelude.{◌≡◌, ℕ, List, [], ◌∷◌, Some, None, O
 use Rattle.std.specs.List.{AllByRecursion}
 use Rattle.record.specs.declared.State.TheVariants.{Ready, Singulation, Inventoried}
 use Rattle.record.specs.declared.Tag.{Tag}
-use Rattle.field.specs.Sends.{gapped_all}
+use Rattle.field.specs.Sends.{after_gap_all}
 use Rattle.bench.specs.Tables.{place_of}
 use Rattle.worked_cases.specs.Words.{bytes, flagged, numbered, numbered_from}
 ";
@@ -79,7 +79,7 @@ fn gaps() -> Listing {
     Listing {
         about: "Tags, a gap in microseconds, and the tags after it.",
         name: "GapsForAll",
-        law: "{X = List Tag × ℕ × List Tag}\n    (λ (before, microseconds, after). gapped_all microseconds before ≡ after)".into(),
+        law: "{X = List Tag × ℕ × List Tag}\n    (λ (before, microseconds, after). after_gap_all microseconds before ≡ after)".into(),
         rows,
     }
 }

@@ -15,11 +15,11 @@ use Rattle.protocol.specs.declared.command.Command.TheVariants.{Query, Scroll, R
 use Rattle.protocol.specs.declared.command.Command.TheVariants.{Qlock, ReadFlexible, Write}
 use Rattle.protocol.specs.declared.command.Parameter.{Parameter}
 use Rattle.protocol.specs.declared.command.Parameter.TheVariants.{Serial, Address, Mask, Word, Data, Length, Ignored}
-use Rattle.protocol.specs.Refusals.{Answer, told, denied}
-use Rattle.frame.specs.Makings.{making, answering, leaving}
+use Rattle.protocol.specs.Refusals.{WriteResult, wrote, not_written}
+use Rattle.frame.specs.Makings.{making, result_of, buffer_after}
 use Rattle.frame.specs.Openings.{Opening, refused, opened, opening}
 use Rattle.frame.specs.Parts.{Part}
-use Rattle.frame.specs.Writing.{laid}
+use Rattle.frame.specs.Writing.{overlaid}
 use Rattle.worked_cases.specs.Words.{bytes, used}
 
 abbrev pub part : Parameter → ℕ → String → Part
@@ -121,8 +121,8 @@ fn made_row(code: u8, length: usize, room: usize) -> Row {
     let parameters = counted(length);
     let mut after = vec![OLD; room];
     let answer = match make(code, &parameters, &mut after) {
-        Ok(length) => Term::call("told", &[number(length)]),
-        Err(refusal) => Term::call("denied", &[number(refusal as u8)]),
+        Ok(length) => Term::call("wrote", &[number(length)]),
+        Err(refusal) => Term::call("not_written", &[number(refusal as u8)]),
     };
     row(&[
         byte(code),
@@ -155,7 +155,7 @@ fn makings() -> Listing {
     Listing {
         about: "A code and parameters, how long the buffer is, the answer of making, and the buffer after it: with room enough, with\n-- room one byte short, and with what makes no frame.",
         name: "MadeFrames",
-        law: "{X = ℕ × String × ℕ × Answer × List ℕ}\n    (λ (code, parameters, room, answer, after).\n    (answering (making code (bytes parameters) room) ≡ answer)\n    × (leaving (making code (bytes parameters) room) (used room) ≡ after))".into(),
+        law: "{X = ℕ × String × ℕ × WriteResult × List ℕ}\n    (λ (code, parameters, room, answer, after).\n    (result_of (making code (bytes parameters) room) ≡ answer)\n    × (buffer_after (making code (bytes parameters) room) (used room) ≡ after))".into(),
         rows: rows
             .iter()
             .map(|&(code, length, room)| made_row(code, length, room))
@@ -171,9 +171,9 @@ fn laid_bytes() -> Listing {
         row(&[number(room), number(place), digits(&given), stretch(&after)])
     };
     Listing {
-        about: "How long a buffer is, a place in it, bytes, and the buffer once they are laid over it there.",
+        about: "How long a buffer is, a place in it, bytes, and the buffer once they are overlaid over it there.",
         name: "LaidBytes",
-        law: "{X = ℕ × ℕ × String × List ℕ}\n    (λ (room, place, given, after). laid (used room) place (bytes given) ≡ after)".into(),
+        law: "{X = ℕ × ℕ × String × List ℕ}\n    (λ (room, place, given, after). overlaid (used room) place (bytes given) ≡ after)".into(),
         rows: [
             (0, 0, 0),
             (4, 0, 0),

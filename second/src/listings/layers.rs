@@ -15,8 +15,8 @@ use Rattle.record.specs.declared.Tag.{Tag}
 use Rattle.field.specs.declared.hearing.Hearing.{Hearing}
 use Rattle.field.specs.declared.hearing.Hearing.TheVariants.{Silence, Lone, Clash}
 use Rattle.field.specs.Sends.{row_behind}
-use Rattle.layers.specs.Pairs.{fits, paired}
-use Rattle.layers.specs.Spoilers.{lones, spoiled}
+use Rattle.composite_fields.specs.Pairs.{fits, paired}
+use Rattle.composite_fields.specs.Spoilers.{lone_count, spoiled}
 use Rattle.worked_cases.specs.Words.{numbered, numbered_from}
 
 -- The tags of a pair, if it is made.
@@ -110,7 +110,7 @@ fn lones() -> Listing {
     Listing {
         about: "What is heard from below, and how many lone replies that is.",
         name: "LonesCounted",
-        law: "{X = Hearing × ℕ} (λ (below, count). lones below ≡ count)".into(),
+        law: "{X = Hearing × ℕ} (λ (below, count). lone_count below ≡ count)".into(),
         rows: [0, 1, 2].map(counted).into(),
     }
 }

@@ -10,7 +10,7 @@ const HEAD: &str = "\
 use Rattle.std.specs.Prelude.{◌≡◌, ℕ, List, [], ◌∷◌, ◌++◌, replicate}
 use Rattle.std.specs.List.{AllByRecursion}
 use Rattle.frame.specs.Openings.{opening}
-use Rattle.panel.specs.Shown.{answering, leaving}
+use Rattle.panel.specs.Shown.{status_of, shown_after}
 
 -- A frame, how many bytes the panel has, the answer, and those bytes after it.
 abbrev pub shown : List ℕ → ℕ → ℕ → List ℕ → List ℕ × ℕ × ℕ × List ℕ
@@ -95,7 +95,7 @@ fn shown_frames() -> Listing {
     Listing {
         about: "A frame of each command, room that is longer and one byte short, and each refusal.",
         name: "ShownFrames",
-        law: "{X = List ℕ × ℕ × ℕ × List ℕ}\n    (λ (frame, room, answer, after). (answering (opening frame) room ≡ answer)\n    × (leaving (opening frame) (replicate room 0xa5) ≡ after))".into(),
+        law: "{X = List ℕ × ℕ × ℕ × List ℕ}\n    (λ (frame, room, answer, after). (status_of (opening frame) room ≡ answer)\n    × (shown_after (opening frame) (replicate room 0xa5) ≡ after))".into(),
         rows,
     }
 }

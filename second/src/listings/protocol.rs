@@ -20,7 +20,7 @@ use Rattle.protocol.specs.declared.command.Parameter.{Parameter}
 use Rattle.protocol.specs.declared.command.Parameter.TheVariants.{Serial, Address, Mask, Word, Data, Length, Ignored}
 use Rattle.protocol.specs.declared.refusal.Refusal.{Refusal}
 use Rattle.protocol.specs.declared.refusal.Refusal.TheVariants as refusal
-use Rattle.protocol.specs.Commands.{code_of, layout, size_of, length_of, commands, named, entry_of, first_entry}
+use Rattle.protocol.specs.Commands.{code_of, layout, size_of, length_of, commands, command_with_code, entry_of, first_entry}
 use Rattle.protocol.specs.Names.{command_name, parameter_name, refusal_name}
 use Rattle.protocol.specs.Refusals.{number_of}
 ";
@@ -29,7 +29,7 @@ use Rattle.protocol.specs.Refusals.{number_of}
 const COMMAND_LAW: &str = "{X = Command × String × ℕ × List Parameter × ℕ}
     (λ (command, name, code, parameters, length).
     (command_name command ≡ codes name) × (code_of command ≡ code) × (layout command ≡ parameters)
-    × (length_of command ≡ length) × (named code ≡ Some command)
+    × (length_of command ≡ length) × (command_with_code code ≡ Some command)
     × (first_entry code (map entry_of commands)
     ≡ Some (record { command = command; code = code; length = length })))";
 
@@ -87,7 +87,7 @@ fn unknown_codes() -> Listing {
     Listing {
         about: "Codes that no command has, most of them one bit away from one.",
         name: "UnknownCodes",
-        law: "(λ code. (named code ≡ None) × (first_entry code (map entry_of commands) ≡ None))"
+        law: "(λ code. (command_with_code code ≡ None) × (first_entry code (map entry_of commands) ≡ None))"
             .into(),
         rows: UNKNOWN_CODES
             .iter()

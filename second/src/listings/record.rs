@@ -21,7 +21,7 @@ use Rattle.record.specs.declared.WriteMark.{WriteMark}
 use Rattle.record.specs.declared.WriteMark.TheVariants.{Clear, Fading, Fresh}
 use Rattle.record.specs.declared.Tag.{Tag}
 use Rattle.record.specs.Alike.{alike}
-use Rattle.record.specs.Gaps.{gapped}
+use Rattle.record.specs.Gaps.{after_gap}
 use Rattle.record.specs.Masks.{selects, matches, stored}
 use Rattle.record.specs.Names.{state_name}
 use Rattle.record.specs.Records.{byte_at, locked_at, serial_of, mark_number, fallen, is_write_ok, new_tag}
@@ -233,7 +233,7 @@ fn gaps() -> Listing {
     Listing {
         about: "A tag, a gap in microseconds, and the tag after it.",
         name: "Gaps",
-        law: "{X = Tag × ℕ × Tag} (λ (before, microseconds, after). gapped microseconds before ≡ after)".into(),
+        law: "{X = Tag × ℕ × Tag} (λ (before, microseconds, after). after_gap microseconds before ≡ after)".into(),
         rows,
     }
 }

@@ -11,8 +11,8 @@ const HEAD: &str = "\
 use Rattle.std.specs.Prelude.{◌≡◌, ℕ, List, [], ◌∷◌, ◌++◌, replicate}
 use Rattle.std.specs.List.{AllByRecursion, range_with_len}
 use Rattle.crc.specs.Check.{sealed}
-use Rattle.protocol.specs.Refusals.{Answer, told, denied}
-use Rattle.frame.specs.Makings.{answering, leaving, writing}
+use Rattle.protocol.specs.Refusals.{WriteResult, wrote, not_written}
+use Rattle.frame.specs.Makings.{result_of, buffer_after, writing}
 use Rattle.record.specs.declared.State.TheVariants.{Ready}
 use Rattle.record.specs.Records.{bytes_from}
 use Rattle.reply.specs.declared.Reply.{Reply}
@@ -74,10 +74,10 @@ fn reply_row(reply: Reply, is_serial: bool, room: usize) -> Row {
     let mut after = vec![OLD; room];
     let bytes = plain().written(reply);
     let answer = if bytes.len() > room {
-        Term::call("denied", &[number(Refusal::NoRoom as u8)])
+        Term::call("not_written", &[number(Refusal::NoRoom as u8)])
     } else {
         after[..bytes.len()].copy_from_slice(&bytes);
-        Term::call("told", &[number(bytes.len())])
+        Term::call("wrote", &[number(bytes.len())])
     };
     row(&[
         told(reply, is_serial),
@@ -123,7 +123,7 @@ fn replies() -> Listing {
     Listing {
         about: "Replies of each kind, from one byte to 256, how long the buffer is, the answer of writing, and the buffer after it.",
         name: "WrittenReplies",
-        law: "{X = Reply × ℕ × Answer × List ℕ}\n    (λ (reply, room, answer, after). (answering (writing (told_by_plain reply) room) ≡ answer)\n    × (leaving (writing (told_by_plain reply) room) (used room) ≡ after))".into(),
+        law: "{X = Reply × ℕ × WriteResult × List ℕ}\n    (λ (reply, room, answer, after). (result_of (writing (told_by_plain reply) room) ≡ answer)\n    × (buffer_after (writing (told_by_plain reply) room) (used room) ≡ after))".into(),
         rows,
     }
 }

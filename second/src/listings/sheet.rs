@@ -16,8 +16,8 @@ use Rattle.std.specs.Prelude.{◌≡◌, ℕ, List, [], ◌∷◌, ◌++◌, map
 use Rattle.std.specs.List.{flat_map, AllByRecursion}
 use Rattle.protocol.specs.declared.command.Command.{Command}
 use Rattle.protocol.specs.declared.command.Command.TheVariants.{Select, Query, Scroll, Write}
-use Rattle.protocol.specs.Refusals.{Answer, told, denied}
-use Rattle.frame.specs.Makings.{answering, leaving, writing}
+use Rattle.protocol.specs.Refusals.{WriteResult, wrote, not_written}
+use Rattle.frame.specs.Makings.{result_of, buffer_after, writing}
 use Rattle.field.specs.declared.hearing.Hearing.{Hearing}
 use Rattle.field.specs.declared.hearing.Hearing.TheVariants.{Silence, Lone, Clash}
 use Rattle.slot.specs.declared.ending.End.TheVariants.{Whole, Stopped}
@@ -142,10 +142,10 @@ fn rooms() -> Listing {
     let printed = sheet.to_string();
     let printing = |&room: &usize| {
         let Some(behind) = room.checked_sub(printed.len()) else {
-            let answer = Term::call("denied", &[number(Refusal::NoRoom as u8)]);
+            let answer = Term::call("not_written", &[number(Refusal::NoRoom as u8)]);
             return row(&[number(room), answer, stretch(&vec![OLD; room])]);
         };
-        let answer = Term::call("told", &[number(printed.len())]);
+        let answer = Term::call("wrote", &[number(printed.len())]);
         let lines = Term::call("lines", &[lines_term(&printed)]);
         if behind == 0 {
             return row(&[number(room), answer, lines]);
@@ -156,7 +156,7 @@ fn rooms() -> Listing {
     Listing {
         about: "How long a buffer is, the answer of writing a sheet of one line, and the buffer after it.",
         name: "SheetRooms",
-        law: "{X = ℕ × Answer × List ℕ}\n    (λ (room, answer, after). (answering (writing short_sheet room) ≡ answer)\n    × (leaving (writing short_sheet room) (used room) ≡ after))".into(),
+        law: "{X = ℕ × WriteResult × List ℕ}\n    (λ (room, answer, after). (result_of (writing short_sheet room) ≡ answer)\n    × (buffer_after (writing short_sheet room) (used room) ≡ after))".into(),
         rows: [31, 30, 0, 33].iter().map(printing).collect(),
     }
 }

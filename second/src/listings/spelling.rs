@@ -25,13 +25,13 @@ use Rattle.record.specs.declared.WriteMark.{WriteMark}
 use Rattle.record.specs.declared.WriteMark.TheVariants.{Clear, Fading, Fresh}
 use Rattle.reply.specs.declared.Reply.{Reply}
 use Rattle.reply.specs.declared.Reply.TheVariants.{Serial, Memory, Status}
-use Rattle.spelling.specs.declared.misspelt.Misspelt.{Misspelt}
-use Rattle.spelling.specs.declared.misspelt.Misspelt.TheVariants as misspelt
-use Rattle.spelling.specs.Hexadecimal.{shown, has_small, SpellsBytes, SpellsArray, SpellsByte}
-use Rattle.spelling.specs.Misspellings.{misspelt_text, line_text, of_hex}
-use Rattle.spelling.specs.Samples.{numbered_serial, numbered_memory, sample_serial, sample_memory}
-use Rattle.spelling.specs.Sent.{IsFrame, IsNoFrame, reply_bytes}
-use Rattle.spelling.specs.Words.{SpellsBit, SpellsMark, SpellsPermission, SpellsLocks}
+use Rattle.notation.specs.declared.error.NotationError.{NotationError}
+use Rattle.notation.specs.declared.error.NotationError.TheVariants as misspelt
+use Rattle.notation.specs.Hexadecimal.{shown, has_small, SpellsBytes, SpellsArray, SpellsByte}
+use Rattle.notation.specs.Errors.{error_text, line_text, of_hex}
+use Rattle.notation.specs.Samples.{numbered_serial, numbered_memory, sample_serial, sample_memory}
+use Rattle.notation.specs.Encodings.{IsFrame, IsNoFrame, reply_bytes}
+use Rattle.notation.specs.Words.{SpellsBit, SpellsMark, SpellsPermission, SpellsLocks}
 use Rattle.worked_cases.specs.Words.{bytes, locked_in, tag_in}
 ";
 
@@ -226,7 +226,7 @@ fn errors() -> Listing {
     Listing {
         about: "The errors, and what is printed of each.",
         name: "ErrorsListed",
-        law: "{X = Misspelt × String} (λ (error, text). misspelt_text error ≡ codes text)".into(),
+        law: "{X = NotationError × String} (λ (error, text). error_text error ≡ codes text)".into(),
         rows,
     }
 }
@@ -236,7 +236,7 @@ fn errors_of_hex() -> Listing {
     Listing {
         about: "What the errors of reading hexadecimal are here.",
         name: "ErrorsOfHex",
-        law: "{X = FromHexError × Misspelt} (λ (error, here). of_hex error ≡ here)".into(),
+        law: "{X = FromHexError × NotationError} (λ (error, here). of_hex error ≡ here)".into(),
         rows: [
             (digit, "Bytes"),
             (Term::word("OddLength"), "Bytes"),
@@ -324,7 +324,7 @@ fn no_frames() -> Listing {
     Listing {
         about: "Codes with parameters that make no frame, and the error of each.",
         name: "NoFramesListed",
-        law: "{X = ℕ × String × Misspelt} (λ (code, parameters, error). IsNoFrame code (bytes parameters) error)".into(),
+        law: "{X = ℕ × String × NotationError} (λ (code, parameters, error). IsNoFrame code (bytes parameters) error)".into(),
         rows: [(0x01, 0), (0x09, 1), (0x1B, 15)].map(refused).to_vec(),
     }
 }

@@ -31,9 +31,9 @@ use Rattle.slot.specs.declared.ending.End.TheVariants.{Whole, Stopped}
 use Rattle.slot.specs.declared.ending.Report.{Report}
 use Rattle.slot.specs.declared.ending.Stop.TheVariants.{Spent, Full}
 use Rattle.slot.specs.Commands.{query}
-use Rattle.slot.specs.Rules.{Setting, Play, Deed, in_clash, beginning, stops, opens, next_deed, played}
-use Rattle.slot.specs.Rules.{Heard, replayed}
-use Rattle.sweep.specs.Fates.{fate_of, due_serials}
+use Rattle.slot.specs.Rules.{Setting, SweepState, Action, in_clash, beginning, stops, opens, next_action, run_by}
+use Rattle.slot.specs.Rules.{MayHearAll, replayed}
+use Rattle.sweep.specs.Effects.{tag_after_sweep, due_serials}
 use Rattle.sweep.specs.Tallies.{enough}
 use Rattle.sweep.specs.Whole.{Reported}
 use Rattle.worked_cases.specs.Words.{bytes, flagged, numbered, carrier, carriers_from, slot_row, report_of}
@@ -55,21 +55,21 @@ swept set before hearings report slots serials after reads =
     (set, before, hearings, report, slots, serials, after, reads)
 
 -- A sweep that has ended gives what the case tells.
-abbrev pub Gives : SweepCase → Play → Type 0
+abbrev pub Gives : SweepCase → SweepState → Type 0
 Gives (set, before, hearings, report, slots, serials, after, reads) play =
     Reported (record { report = report; slots = map slot_row slots; serials = map bytes serials }) after play
     × (play.reads ≡ reads)
 
 -- These hearings may come, and with them it gives that.
 abbrev pub PlaysOut : SweepCase → Type 0
-PlaysOut x = Heard x.0 x.2 (beginning x.1) × Gives x (played x.0 x.2 (beginning x.1))
+PlaysOut x = MayHearAll x.0 x.2 (beginning x.1) × Gives x (run_by x.0 x.2 (beginning x.1))
 
 -- It gives that too by the rule alone, where every lone reply is heard as lone.
 abbrev pub Replays : SweepCase → Type 0
 Replays x = Gives x (replayed x.0 (enough x.0) (beginning x.1))
 
 -- A sweep that has heard nothing but clashes, as so many groups wait. What the reader does next hangs on no tag.
-abbrev pub clashing : ℕ → Play
+abbrev pub clashing : ℕ → SweepState
 clashing groups =
     record {
       phase = in_clash;
@@ -301,7 +301,7 @@ fn deep_sweeps() -> Listing {
     Listing {
         about: "What a sweep is given, how many groups wait behind a clash, and what the reader does: 7 comes before 8 and 9.",
         name: "DeepSweeps",
-        law: "{X = Setting × ℕ × Deed} (λ (set, groups, deed). next_deed set (clashing groups) ≡ deed)".into(),
+        law: "{X = Setting × ℕ × Action} (λ (set, groups, deed). next_action set (clashing groups) ≡ deed)".into(),
         rows: cases.iter().map(row_of).collect(),
     }
 }
@@ -347,7 +347,7 @@ fn fates() -> Listing {
     Listing {
         about: "Tags before a whole sweep, the tags after it, and what it lists, in the order of places.",
         name: "WorkedFates",
-        law: "{X = List Tag × List Tag × List String}\n    (λ (before, after, serials). (map fate_of before ≡ after) × (due_serials before ≡ map bytes serials))".into(),
+        law: "{X = List Tag × List Tag × List String}\n    (λ (before, after, serials). (map tag_after_sweep before ≡ after) × (due_serials before ≡ map bytes serials))".into(),
         rows: cases.iter().map(row_of).collect(),
     }
 }

@@ -16,7 +16,7 @@ use Rattle.record.specs.declared.WriteMark.{WriteMark}
 use Rattle.record.specs.declared.WriteMark.TheVariants.{Clear, Fresh}
 use Rattle.record.specs.declared.Tag.{Tag}
 use Rattle.field.specs.declared.hearing.Hearing.{Hearing}
-use Rattle.slot.specs.declared.row.SlotRow.{SlotRow}
+use Rattle.slot.specs.declared.listed.ListedSlot.{ListedSlot}
 use Rattle.slot.specs.declared.ending.End.{End}
 use Rattle.slot.specs.declared.ending.Report.{Report}
 
@@ -108,7 +108,7 @@ carriers_from first count state identified counter =
     map (λ n. carrier n state identified counter) (range_with_len first count)
 
 -- The row of a slot: the command that opened it, what was heard, and how many groups wait.
-abbrev pub slot_row : Command × Hearing × ℕ → SlotRow
+abbrev pub slot_row : Command × Hearing × ℕ → ListedSlot
 slot_row (command, hearing, waiting) = record { command = command; hearing = hearing; waiting = waiting }
 
 -- The end, then lone, silent and clash slots, and commands.

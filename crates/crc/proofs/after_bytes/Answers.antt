@@ -1,5 +1,5 @@
 use Rattle.std.proofs.Common.{◌≡◌, ℕ, ◌-◌, ◌<◌, List, [], ◌∷◌, ◌++◌, fold, length, get_or, refl, ap, ◌∙◌, arith}
-use Rattle.crc.specs.Check.{byte_taken, sent}
+use Rattle.crc.specs.Check.{byte_taken, high_byte_first}
 use Rattle.crc.proofs.Moves.{residue}
 use Rattle.crc.proofs.after_bytes.Goals as goal
 
@@ -13,8 +13,8 @@ one_left r (x ∷ []) h = refl
 one_left r (x ∷ y ∷ xs) h = absurd (let e : ⊥ = omega arith in e)
 
 -- The residue follows from the value.
-led : (r n : ℕ) (message : List ℕ) → r < 0x10000 → n ≡ fold byte_taken r message → fold byte_taken r (message ++ sent (0xffff - n)) ≡ 0x1d0f
-led r n message h value = ap (λ (x : ℕ). fold byte_taken r (message ++ sent (0xffff - x))) value ∙ residue r message h
+led : (r n : ℕ) (message : List ℕ) → r < 0x10000 → n ≡ fold byte_taken r message → fold byte_taken r (message ++ high_byte_first (0xffff - n)) ≡ 0x1d0f
+led r n message h value = ap (λ (x : ℕ). fold byte_taken r (message ++ high_byte_first (0xffff - x))) value ∙ residue r message h
 
 pub returns-in-len1-clause-residue : goal.returns-in-len1-clause-residue
 returns-in-len1-clause-residue c =

@@ -2,7 +2,7 @@ use Rattle.std.proofs.Common.{◌≡◌, length, ap, arith}
 use Rattle.std.proofs.lemmas.List.{length-take}
 use Rattle.panel.proofs.show.Goals as goal
 
--- The row has its 15 bytes.
+-- The list has its 15 bytes.
 pub copy_from_slice-requires : goal.copy_from_slice-requires
 copy_from_slice-requires c =
     let size : length c.row.result ≡ 15 = ap length c.row.ensures in

@@ -5,7 +5,7 @@ use Rattle.std.proofs.lemmas.List.{take_more}
 use Rattle.std.proofs.lemmas.List.Sums.{fold-append}
 use Rattle.std.proofs.lemmas.Option.{slice_get_within, slice_get_cases, get_or_from_slice_get}
 use Rattle.record.specs.declared.Tag.{Tag}
-use Rattle.field_cases.specs.Fingerprints.{blank, tag_taken}
+use Rattle.field_cases.specs.Fingerprints.{blank, tag_mixed}
 use Rattle.field_cases.proofs.showing.of_tags.Goals as goal
 use Rattle.field_cases.proofs.showing.of_tags.Goals.{in-Some, in_default}
 
@@ -14,11 +14,11 @@ one_more xs i t e =
     take_more xs i t (slice_get_within xs i t e)
     ∙ ap (λ (d : Tag). take i xs ++ d ∷ []) (get_or_from_slice_get xs i t t e)
 
-after : (xs : List Tag) (i : ℕ) (t : Tag) (v : ℕ) → slice_get xs i ≡ Some t → v ≡ fold tag_taken blank (take i xs)
-    → tag_taken v t ≡ fold tag_taken blank (take (i + 1) xs)
+after : (xs : List Tag) (i : ℕ) (t : Tag) (v : ℕ) → slice_get xs i ≡ Some t → v ≡ fold tag_mixed blank (take i xs)
+    → tag_mixed v t ≡ fold tag_mixed blank (take (i + 1) xs)
 after xs i t v e known =
-    ap (λ (u : ℕ). tag_taken u t) known
-    ∙ sym (ap (fold tag_taken blank) (one_more xs i t e) ∙ fold-append tag_taken blank (take i xs) (t ∷ []))
+    ap (λ (u : ℕ). tag_mixed u t) known
+    ∙ sym (ap (fold tag_mixed blank) (one_more xs i t e) ∙ fold-append tag_mixed blank (take i xs) (t ∷ []))
 
 -- Each place below the length has a tag.
 within : (xs : List Tag) (i : ℕ) → None ≡ slice_get xs i → i < length xs → ⊥

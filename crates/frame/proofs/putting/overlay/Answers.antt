@@ -1,10 +1,10 @@
 use Rattle.std.proofs.Common.{◌≡◌, ℕ, ◌+◌, ◌-◌, List, ◌++◌, length, take, drop, ap, ◌∙◌, ap₂, arith}
 use Rattle.std.proofs.lemmas.List.{drop-drop}
-use Rattle.frame.specs.Writing.{laid}
+use Rattle.frame.specs.Writing.{overlaid}
 use Rattle.frame.proofs.putting.overlay.Goals as goal
 
 pub returns : goal.returns
-unfolding laid
+unfolding overlaid
 returns c =
     let xs : List ℕ = c.args.buffer.now in
     let n : ℕ = length c.args.bytes.now in

@@ -2,7 +2,7 @@ use Rattle.std.proofs.Common.{◌≡◌, ℕ, ◌+◌, List, [], ◌++◌, lengt
 use borrow.Author.Tests.{false-leb}
 use Rattle.crc.specs.Check.{sealed}
 use Rattle.frame.proofs.Writes.{Holds, holds_more, holds-sealed, put_room}
-use Rattle.protocol.specs.Refusals.{told}
+use Rattle.protocol.specs.Refusals.{wrote}
 use Rattle.reply.specs.Replies.{data_of}
 use Rattle.reply.proofs.Bytes.{length-sealed}
 use Rattle.reply.proofs.Reply.lay.Goals as goal
@@ -47,6 +47,6 @@ returns c =
     let final : c.seal.new.self.buffer.now ≡ sealed bytes ++ drop (length (sealed bytes)) b = h2.bytes in
     let count : c.filled.result ≡ length (sealed bytes) = c.filled.ensures ∙ h2.count in
     record {
-      answer = ap told count;
+      answer = ap wrote count;
       buffer = search rules;
     }

@@ -7,8 +7,8 @@ use Rattle.protocol.specs.Refusals.{refusal_in}
 use Rattle.field.specs.declared.hearing.Hearing.{Hearing}
 use Rattle.field.specs.declared.hearing.Hearing.TheVariants.{Silence}
 use Rattle.frame.specs.Openings.{opening}
-use Rattle.field.specs.Airs.{Air, MayHear, plainly, caught}
-use Rattle.field.specs.Sends.{left_in, padded, stepped_all, on_air}
+use Rattle.field.specs.Airs.{Air, MayHear, plain_hearing, heard_bytes}
+use Rattle.field.specs.Sends.{buffer_after_send, padded, stepped_all, on_air}
 use Rattle.field.specs.declared.field.Field.{Ghosts as Kind}
 use Rattle.field.specs.Promises.{AfterSend}
 use Rattle.slot.specs.Commands.{serial_in}
@@ -20,11 +20,11 @@ length-padded n bytes = omega (arith, length-append bytes (replicate (n - length
 
 -- The first bytes of the buffer are the serial number in what is heard.
 taken : (r : Result Hearing Refusal) (h : Hearing) (air : Air) (b after s : List ℕ) → refusal_in r ≡ None → h ≡ result_unwrap_or r Silence
-    → after ≡ left_in r air b → s ≡ take 8 after → s ≡ serial_in h air
+    → after ≡ buffer_after_send r air b → s ≡ take 8 after → s ≡ serial_in h air
 unfolding serial_in
 taken (Ok x) h air b after s n e f t =
-    let long : 8 ≤ length (padded 258 (caught x air)) = omega (arith, length-padded 258 (caught x air)) in
-    t ∙ ap (take 8) f ∙ take-append-le 8 (padded 258 (caught x air)) (drop 258 b) long ∙ ap (λ (k : Hearing). take 8 (padded 258 (caught k air))) (sym e)
+    let long : 8 ≤ length (padded 258 (heard_bytes x air)) = omega (arith, length-padded 258 (heard_bytes x air)) in
+    t ∙ ap (take 8) f ∙ take-append-le 8 (padded 258 (heard_bytes x air)) (drop 258 b) long ∙ ap (λ (k : Hearing). take 8 (padded 258 (heard_bytes k air))) (sym e)
 taken (Err x) h air b after s n e f t = absurd (let z : ◌≡◌ {A = ℕ} 0 1 = cc in omega arith)
 
 pub returns-clause-serial : goal.returns-clause-serial
@@ -36,7 +36,7 @@ returns-clause-serial g c =
 sent_of : {F : Type 0} (kind : Kind F) (frame : List ℕ) (row : ℕ) (a b : F) (r : Result Hearing Refusal) (h : Hearing) → refusal_in r ≡ None
     → h ≡ result_unwrap_or r Silence → kind.tags b ≡ stepped_all (opening frame) row (kind.tags a)
     → IfOk r (λ x. MayHear (on_air (opening frame) row (kind.tags a)) x)
-    → IfOk r (λ x. kind.faithful a ≡ true → x ≡ plainly (on_air (opening frame) row (kind.tags a)))
+    → IfOk r (λ x. kind.faithful a ≡ true → x ≡ plain_hearing (on_air (opening frame) row (kind.tags a)))
     → kind.faithful b ≡ kind.faithful a → kind.hears a frame row r b → AfterSend kind frame row h a b
 sent_of kind frame row a b (Ok x) h n e tags may plain still promise =
     subst (λ (y : Hearing). AfterSend kind frame row y a b) (sym e)

@@ -2,8 +2,8 @@ use Rattle.std.proofs.Common.{◌≡◌, ℕ, List, [], ◌∷◌, ◌++◌, len
 use Rattle.crc.specs.Check.{sealed}
 use Rattle.protocol.specs.Commands.{code_of}
 use Rattle.protocol.proofs.Lookups.{named_self}
-use Rattle.protocol.specs.Refusals.{told}
-use Rattle.frame.specs.Makings.{unmade, made, making, answering}
+use Rattle.protocol.specs.Refusals.{wrote}
+use Rattle.frame.specs.Makings.{unmade, made, making, result_of}
 use Rattle.frame.proofs.Makes.{no_room, makes}
 use Rattle.frame.proofs.Trips.{opens_back, opens_at}
 use Rattle.frame.proofs.Writes.{Holds, holds_more, holds-sealed}
@@ -34,7 +34,7 @@ returns c =
     let count : c.filled.result ≡ length (sealed (code ∷ ps)) = c.filled.ensures ∙ h3.count in
     let all : making code ps (length b) ≡ made (sealed (code ∷ ps)) = makes code ps (length b) d.command (named_self d.command) d.whole (omega arith) in
     record {
-      answer = ap told count ∙ sym (ap answering all);
+      answer = ap wrote count ∙ sym (ap result_of all);
       buffer = rw all (search rules);
       opens = opens_at code ps _ c.filled.result (drop (length (sealed (code ∷ ps))) b) (search rules) count (opens_back code ps d.command (named_self d.command) d.whole);
     }

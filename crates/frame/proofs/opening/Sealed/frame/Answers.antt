@@ -2,7 +2,7 @@ use Rattle.std.proofs.Common.{◌≡◌, ℕ, List, length, get_or, Some, sym, a
 use Rattle.std.proofs.lemmas.Result.{err_from_is_err_and}
 use Rattle.protocol.specs.declared.command.Command.{Command}
 use Rattle.protocol.specs.declared.command.Entry.{Entry}
-use Rattle.protocol.specs.Commands.{code_of, named, layout, length_of}
+use Rattle.protocol.specs.Commands.{code_of, command_with_code, layout, length_of}
 use Rattle.frame.specs.Openings.{opened, parameters_of}
 use Rattle.frame.specs.Makings.{making}
 use Rattle.frame.specs.Parts.{Part, placed, bytes_in, Within}
@@ -17,13 +17,13 @@ pub returns-in_err-entry-clause-seen : goal.returns-in_err-entry-clause-seen
 returns-in_err-entry-clause-seen c =
     let s = c.args.self.now in
     let p = err_from_is_err_and c.from_residual.result c.from_residual.ensures.1 in
-    rw (p.1, p.2, c.in_err-entry.ensures.0) (sym (no_code s.bytes.now s.long s.right (ap named (sym s.first) ∙ c.in_err-entry.ensures.1)))
+    rw (p.1, p.2, c.in_err-entry.ensures.0) (sym (no_code s.bytes.now s.long s.right (ap command_with_code (sym s.first) ∙ c.in_err-entry.ensures.1)))
 
 pub returns-then-self-entry-clause-seen : goal.returns-then-self-entry-clause-seen
 returns-then-self-entry-clause-seen c =
     let s = c.args.self.now in
     let found = c.in_ok-entry.ensures in
-    sym (bad-length s.bytes.now s.long s.right c.in_ok-entry.entry.command (ap named (sym s.first) ∙ found.0)
+    sym (bad-length s.bytes.now s.long s.right c.in_ok-entry.entry.command (ap command_with_code (sym s.first) ∙ found.0)
     (λ l. c.if-self-entry.true (l ∙ sym (ap (λ (e : Entry). e.length) found.1))))
 
 pub of-requires : goal.of-requires
@@ -40,7 +40,7 @@ returns c =
     let k : Command = c.in_ok-entry.entry.command in
     let frame : List ℕ = s.bytes.now in
     let l : length frame ≡ length_of k = c.if-self-entry.false ∙ ap (λ (e : Entry). e.length) found.1 in
-    let name : named (get_or frame 0 0) ≡ Some k = ap named (sym s.first) ∙ found.0 in
+    let name : command_with_code (get_or frame 0 0) ≡ Some k = ap command_with_code (sym s.first) ∙ found.0 in
     let code : c.in_ok-entry.entry.code ≡ code_of k = ap (λ (e : Entry). e.code) found.1 in
     let parts : parts_of c.of.result ≡ placed 1 (layout k) (parameters_of frame) = c.of.ensures.parts ∙ ap (placed 1 (layout k)) s.between in
     record {

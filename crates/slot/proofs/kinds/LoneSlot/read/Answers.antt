@@ -1,58 +1,58 @@
 use Rattle.std.proofs.Common.{rules, ◌≡◌, ℕ, Bool, true, false, cond, List, [], ◌∷◌, ◌++◌, length, Ok, Err, Result, sym, refl, ap, ap₂, ◌∙◌}
 use Rattle.std.specs.Prelude.{nat_le, IfErr}
-use Rattle.rows.specs.declared.list.Rows.{Rows}
-use Rattle.rows.specs.Filling.{rows_of, room_of, is_full, and_row}
+use Rattle.slice_vec.specs.declared.vec.SliceVec.{SliceVec}
+use Rattle.slice_vec.specs.Filling.{items_of, capacity_of, is_full, with_item}
 use Rattle.field.specs.declared.field.Field.{Ghosts as Kind}
 use Rattle.field.specs.declared.hearing.Hearing.TheVariants.{Silence}
 use Rattle.slot.specs.declared.ending.Stopped.{Stopped}
 use Rattle.slot.specs.declared.kinds.LoneSlot.{LoneSlot}
 use Rattle.slot.specs.declared.kinds.SilentSlot.{SilentSlot}
 use Rattle.slot.specs.declared.lists.Lists.{Lists}
-use Rattle.slot.specs.declared.row.SlotRow.{SlotRow}
-use Rattle.slot.specs.Countings.{stop_number}
-use Rattle.slot.specs.Going.{setting, Where, at_slot, at_lone, at_unread, where_read, Leads, StandsAt}
-use Rattle.slot.specs.Rules.{Setting, Play, in_lone, in_reading, next_deed, deed_in, done, stops, lists}
+use Rattle.slot.specs.declared.listed.ListedSlot.{ListedSlot}
+use Rattle.slot.specs.Counts.{stop_number}
+use Rattle.slot.specs.Calls.{setting, Position, at_slot, at_lone, at_unread, position_read, Continues, IsAtSlot}
+use Rattle.slot.specs.Rules.{Setting, SweepState, in_lone, in_reading, next_action, action_in, after_action, stops, lists}
 use Rattle.slot.proofs.Moves.{reaches_by, led_on, stopped}
 use Rattle.slot.proofs.kinds.LoneSlot.read.Goals as goal
 
--- The next deed at a lone slot, by whether the list is full.
-lone_deed : (set : Setting) (p : Play) (serial : List ℕ) (b : Bool) → p.phase ≡ in_lone serial → nat_le set.serial_room (length p.serials) ≡ b
-    → next_deed set p ≡ cond b (stops 9) (lists serial)
-lone_deed set p serial b e w = ap (deed_in set p) e ∙ ap (λ (x : Bool). cond x (stops 9) (lists serial)) w
+-- The next action at a lone slot, by whether the list is full.
+lone_deed : (set : Setting) (p : SweepState) (serial : List ℕ) (b : Bool) → p.phase ≡ in_lone serial → nat_le set.serial_room (length p.serials) ≡ b
+    → next_action set p ≡ cond b (stops 9) (lists serial)
+lone_deed set p serial b e w = ap (action_in set p) e ∙ ap (λ (x : Bool). cond x (stops 9) (lists serial)) w
 
 pub returns-then-is_err-clause-rule : goal.returns-then-is_err-clause-rule
 returns-then-is_err-clause-rule g c coins p s =
-    let set : Setting = setting coins c.args.self.stand.budget c.args.lists.now in
+    let set : Setting = setting coins c.args.self.progress.budget c.args.lists.now in
     let full : is_full c.args.lists.now.serials ≡ true = search rules in
-    let kept : rows_of c.args.lists.now.serials ≡ rows_of c.push.new.self =
-    sym (c.push.ensures.rows ∙ ap (λ (b : Bool). and_row b (rows_of c.args.lists.now.serials) c.args.self.serial) full) in
+    let kept : items_of c.args.lists.now.serials ≡ items_of c.push.new.self =
+    sym (c.push.ensures.items ∙ ap (λ (b : Bool). with_item b (items_of c.args.lists.now.serials) c.args.self.serial) full) in
     stopped g.F.Field set p (record { slots = c.args.lists.now.slots; serials = c.push.new.self }) c.args.field.now c.args.field.now 9 c.stopped.result
     (lone_deed set p c.args.self.serial true s.phase (ap (λ (rows : List (List ℕ)). nat_le set.serial_room (length rows)) s.serials ∙ full)) refl
     (ap (λ (x : Stopped). stop_number x.stop) c.stopped.ensures) (s.commands ∙ ap (λ (x : Stopped). x.counts.commands) (sym c.stopped.ensures)) s.slots
     (s.serials ∙ kept) s.tags
 
 -- A serial number is listed, and what reading then comes to.
-then_read : {F : Type 0} (kind : Kind F) (coins : List ℕ) (self : LoneSlot) (before after : Lists) (to : Where) (a b : F) → is_full before.serials ≡ false
-    → after.slots ≡ before.slots → rows_of after.serials ≡ and_row (is_full before.serials) (rows_of before.serials) self.serial
-    → room_of after.serials ≡ room_of before.serials → Leads kind coins (at_slot (in_reading self.serial) self.stand) to a b after after
-    → Leads kind coins (at_lone self) to a b before after
+then_read : {F : Type 0} (kind : Kind F) (coins : List ℕ) (self : LoneSlot) (before after : Lists) (to : Position) (a b : F) → is_full before.serials ≡ false
+    → after.slots ≡ before.slots → items_of after.serials ≡ with_item (is_full before.serials) (items_of before.serials) self.serial
+    → capacity_of after.serials ≡ capacity_of before.serials → Continues kind coins (at_slot (in_reading self.serial) self.progress) to a b after after
+    → Continues kind coins (at_lone self) to a b before after
 then_read kind coins self before after to a b free slots rows room read p s =
-    let set : Setting = setting coins self.stand.budget before in
-    let listed : rows_of before.serials ++ self.serial ∷ [] ≡ rows_of after.serials =
-    sym (rows ∙ ap (λ (x : Bool). and_row x (rows_of before.serials) self.serial) free) in
-    let q : Play = done (lists self.serial) Silence p in
-    let stands : StandsAt (in_reading self.serial) self.stand after (kind.tags a) q =
+    let set : Setting = setting coins self.progress.budget before in
+    let listed : items_of before.serials ++ self.serial ∷ [] ≡ items_of after.serials =
+    sym (rows ∙ ap (λ (x : Bool). with_item x (items_of before.serials) self.serial) free) in
+    let q : Play = after_action (lists self.serial) Silence p in
+    let stands : IsAtSlot (in_reading self.serial) self.progress after (kind.tags a) q =
     record {
       phase = refl;
       waiting = s.waiting;
       next = s.next;
       commands = s.commands;
-      slots = s.slots ∙ ap (λ (l : Rows SlotRow). rows_of l) (sym slots);
+      slots = s.slots ∙ ap (λ (l : SliceVec ListedSlot). items_of l) (sym slots);
       serials = ap (λ (x : List (List ℕ)). x ++ self.serial ∷ []) s.serials ∙ listed;
       tags = s.tags;
     } in
-    let same : setting coins self.stand.budget after ≡ set =
-    ap₂ (λ (m n : ℕ). record { coins = coins; budget = self.stand.budget; slot_room = m; serial_room = n }) (ap (λ (l : Rows SlotRow). room_of l) slots) room in
+    let same : setting coins self.progress.budget after ≡ set =
+    ap₂ (λ (m n : ℕ). record { coins = coins; budget = self.progress.budget; slot_room = m; serial_room = n }) (ap (λ (l : SliceVec ListedSlot). capacity_of l) slots) room in
     let first = reaches_by kind set p (lists self.serial) Silence a a
     (lone_deed set p self.serial false s.phase (ap (λ (x : List (List ℕ)). nat_le set.serial_room (length x)) s.serials ∙ free)) refl (λ f. refl) refl in
     led_on kind set _ p q to a a b after first same (read q stands)
@@ -60,8 +60,8 @@ then_read kind coins self before after to a b free slots rows room read p s =
 pub returns-clause-rule : goal.returns-clause-rule
 returns-clause-rule g c coins =
     let free : is_full c.args.lists.now.serials ≡ false = search rules in
-    then_read g.F.Field coins c.args.self c.args.lists.now (record { slots = c.args.lists.now.slots; serials = c.push.new.self }) (where_read c.read.result)
-    c.args.field.now c.read.new.field free refl c.push.ensures.rows c.push.ensures.behind.room (c.read.ensures.rule coins _)
+    then_read g.F.Field coins c.args.self c.args.lists.now (record { slots = c.args.lists.now.slots; serials = c.push.new.self }) (position_read c.read.result)
+    c.args.field.now c.read.new.field free refl c.push.ensures.items c.push.ensures.behind.room (c.read.ensures.rule coins _)
 
 -- Of a stop, what follows.
 if_stopped : (r : Result SilentSlot Stopped) (P Q : Stopped → Type 0) → ((s : Stopped) → P s → Q s) → IfErr r P → IfErr r Q
@@ -73,5 +73,5 @@ returns-clause-unread g c coins =
     let after : Lists = record { slots = c.args.lists.now.slots; serials = c.push.new.self } in
     if_stopped c.read.result _ _
     (λ s led free. then_read g.F.Field coins c.args.self c.args.lists.now after (at_unread c.args.self s.counts) c.args.field.now c.read.new.field free refl
-    c.push.ensures.rows c.push.ensures.behind.room led)
+    c.push.ensures.items c.push.ensures.behind.room led)
     (c.read.ensures.unread coins after)

@@ -1,6 +1,0 @@
-// Fields made of fields.
-#![tactic(auto)]
-
-pub mod pair;
-pub mod spoiler;
-mod spoiling;

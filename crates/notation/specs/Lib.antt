@@ -1,0 +1,5 @@
+pub mod Encodings
+pub mod Errors
+pub mod Hexadecimal
+pub mod Samples
+pub mod Words

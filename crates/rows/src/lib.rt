@@ -1,5 +1,0 @@
-// Lists of rows of any kind, in storage that the caller lends.
-#![tactic(auto)]
-
-mod filling;
-pub mod list;

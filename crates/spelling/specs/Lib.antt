@@ -1,5 +1,0 @@
-pub mod Hexadecimal
-pub mod Misspellings
-pub mod Samples
-pub mod Sent
-pub mod Words
