@@ -65,10 +65,11 @@ MadeFrames =
     (λ (code, parameters, room, answer, after).
     (result_of (making code (bytes parameters) room) ≡ answer)
     × (buffer_after (making code (bytes parameters) room) (used room) ≡ after))
-    ((0x09, "", 3, wrote 3, bytes "098F26") ∷ (0x09, "", 2, not_written 5, bytes "A5A5") ∷ (0x09, "", 0, not_written 5, [])
-    ∷ (0x09, "", 8, wrote 3, bytes "098F26A5A5A5A5A5")
+    ((0x09, "", 3, wrote 3, bytes "098F26") ∷ (0x09, "", 2, not_written 5, bytes "A5A5")
+    ∷ (0x09, "", 0, not_written 5, []) ∷ (0x09, "", 8, wrote 3, bytes "098F26A5A5A5A5A5")
     ∷ (0x00, "30313233343536373839", 13, wrote 13, bytes "0030313233343536373839B7A8")
-    ∷ (0x00, "30313233343536373839", 12, not_written 5, replicate 12 0xa5) ∷ (0x19, "3031", 6, wrote 5, bytes "193031CD76A5")
+    ∷ (0x00, "30313233343536373839", 12, not_written 5, replicate 12 0xa5)
+    ∷ (0x19, "3031", 6, wrote 5, bytes "193031CD76A5")
     ∷ (0x51, "30313233343536373839", 13, wrote 13, bytes "51303132333435363738397E09")
     ∷ (0x1b, "303132333435363738393A3B3C3D", 17, wrote 17, bytes "1B303132333435363738393A3B3C3D9304")
     ∷ (0x1b, "303132333435363738393A3B3C3D", 16, not_written 5, replicate 16 0xa5)
@@ -81,9 +82,10 @@ MadeFrames =
     )
     ∷ (0x1b, "303132333435363738393A3B3C", 17, not_written 4, replicate 17 0xa5)
     ∷ (0x1b, "303132333435363738393A3B3C3D3E", 0, not_written 4, []) ∷ (0x08, "30", 8, not_written 4, replicate 8 0xa5)
-    ∷ (0x01, "", 8, not_written 3, replicate 8 0xa5) ∷ (0xff, "303132333435363738393A3B3C3D3E3F40", 0, not_written 3, []) ∷ [])
+    ∷ (0x01, "", 8, not_written 3, replicate 8 0xa5)
+    ∷ (0xff, "303132333435363738393A3B3C3D3E3F40", 0, not_written 3, []) ∷ [])
 
--- How long a buffer is, a place in it, bytes, and the buffer once they are laid over it there.
+-- How long a buffer is, a place in it, bytes, and the buffer once they are overlaid over it there.
 unfoldable pub LaidBytes : Type 0
 LaidBytes =
     AllByRecursion {X = ℕ × ℕ × String × List ℕ}

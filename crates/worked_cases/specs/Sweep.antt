@@ -163,7 +163,7 @@ SpoiledSweeps =
 -- What a sweep is given, how many groups wait behind a clash, and what the reader does: 7 comes before 8 and 9.
 unfoldable pub DeepSweeps : Type 0
 DeepSweeps =
-    AllByRecursion {X = Setting × ℕ × Action} (λ (set, groups, deed). next_action set (clashing groups) ≡ deed)
+    AllByRecursion {X = Setting × ℕ × Action} (λ (set, groups, action). next_action set (clashing groups) ≡ action)
     ((setting_of (0x0 ∷ []) 256 256 0, 254, opens Query query 0x0 255 1)
     ∷ (setting_of (0x0 ∷ []) 65535 257 0, 255, stops 7) ∷ (setting_of (0x0 ∷ []) 256 256 0, 255, stops 7)
     ∷ (setting_of (0x0 ∷ []) 255 256 0, 254, stops 8) ∷ (setting_of (0x0 ∷ []) 256 255 0, 254, stops 9)

@@ -43,7 +43,7 @@ abbrev pub setting_of : List ℕ → ℕ → ℕ → ℕ → Setting
 setting_of rows budget slot_room serial_room =
     record { coins = rows; budget = budget; slot_room = slot_room; serial_room = serial_room }
 
--- What a sweep is given, the tags before it, and what is heard at each deed; then its report, its slots and serial
+-- What a sweep is given, the tags before it, and what is heard at each action; then its report, its slots and serial
 -- numbers, the tags after it, and how many of its commands are READs.
 abbrev pub SweepCase : Type 0
 SweepCase =
@@ -170,7 +170,7 @@ fn is_read(sent: &&Sent) -> bool {
     sent.frame[0] == Name::Read as u8
 }
 
-/// What was heard at each deed: nothing where a serial number is listed, or where the sweep stops.
+/// What was heard at each action: nothing where a serial number is listed, or where the sweep stops.
 fn hearings_term(swept: &Swept) -> Term {
     let mut all = Vec::new();
     for sent in &swept.sent {
@@ -271,7 +271,7 @@ fn spoiled_sweeps() -> Listing {
 }
 
 /// What a reader does where so many groups wait behind a clash.
-fn deed(swept: &Swept, groups: usize) -> Term {
+fn action(swept: &Swept, groups: usize) -> Term {
     assert_eq!(usize::from(swept.slots[groups].waiting), groups);
     let Some(slot) = swept.slots.get(groups + 1) else {
         return Term::call("stops", &[number(swept.outcome.number())]);
@@ -296,12 +296,12 @@ fn deep_sweeps() -> Listing {
     let row_of = |&(budget, room, groups): &(u16, usize, usize)| {
         let setting = Setting(&[0], budget, room, 0);
         let swept = sweep(&mut bench(ready(&[1, 2])), setting);
-        row(&[setting_term(setting), number(groups), deed(&swept, groups)])
+        row(&[setting_term(setting), number(groups), action(&swept, groups)])
     };
     Listing {
         about: "What a sweep is given, how many groups wait behind a clash, and what the reader does: 7 comes before 8 and 9.",
         name: "DeepSweeps",
-        law: "{X = Setting × ℕ × Action} (λ (set, groups, deed). next_action set (clashing groups) ≡ deed)".into(),
+        law: "{X = Setting × ℕ × Action} (λ (set, groups, action). next_action set (clashing groups) ≡ action)".into(),
         rows: cases.iter().map(row_of).collect(),
     }
 }
