@@ -5,7 +5,7 @@ ghost use Rattle.bench.specs.Tables.{place_of};
 
 use record::Tag;
 
-// At most 64 places, and each memory has its 56 bytes, which a tag in a slice does not have from its type.
+/// At most 64 places, and each memory has its 56 bytes, which a tag in a slice does not have from its type.
 #[derive(Drop)]
 pub struct Bench<'a> {
     pub(crate) table: &'a mut [Tag],
@@ -13,7 +13,7 @@ pub struct Bench<'a> {
     ghost sized: { Sized table.now },
 }
 
-// The first place of a table that has a serial number.
+/// The first place of a table that has a serial number.
 pub fn place_of(table: &[Tag], serial: &[u8]) -> Option<usize>
     ensures place { result ≡ place_of table.now serial.now }
 {

@@ -18,14 +18,14 @@ use protocol::refusal::Refusal;
 use record::Tag;
 
 impl<'a> Bench<'a> {
-    // A bench with no places.
+    /// A bench with no places.
     pub fn new() -> Bench<'a>
         ensures { (table_of result).now ≡ [] }
     {
         Bench { table: &mut [] }
     }
 
-    // Gives the bench a table in the place of the one that it has. The tags are changed in their places.
+    /// Gives the bench a table in the place of the one that it has. The tags are changed in their places.
     pub fn set_table(&mut self, table: &'a mut [Tag]) -> Result<(), Declined<&'a mut [Tag]>>
         ensures refusal { declined_by result ≡ (if nat_le (length table.old) 64 then None else Some 6) }
         ensures table { OnOk result (table_of self.new ≡ table.entry) }
@@ -42,7 +42,7 @@ impl<'a> Bench<'a> {
         Ok(())
     }
 
-    // Gives the table back.
+    /// Gives the table back.
     pub fn into_inner(self) -> &'a mut [Tag]
         ensures { result ≡ table_of self.entry }
     {
@@ -50,7 +50,7 @@ impl<'a> Bench<'a> {
         table
     }
 
-    // The first place that has a serial number.
+    /// The first place that has a serial number.
     pub fn find(&self, serial: &[u8]) -> Option<usize>
         ensures { result ≡ place_of (table_of self.now).now serial.now }
     {

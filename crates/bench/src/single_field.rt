@@ -17,6 +17,7 @@ use record::Tag;
 use std::slice;
 
 impl Single {
+    /// A single of a tag, which stands at place 0.
     pub fn new(tag: Tag) -> Single
         ensures tag { tag_of result ≡ tag }
         ensures tags { tags_of result ≡ tag ∷ [] }
@@ -25,7 +26,7 @@ impl Single {
         Single { tag }
     }
 
-    // Gives the tag back.
+    /// Gives the tag back.
     pub fn into_inner(self) -> Tag
         ensures tag { result ≡ tag_of self }
         ensures tags { tags_of self ≡ result ∷ [] }

@@ -16,8 +16,8 @@ use field::lending::Lending;
 use protocol::refusal::Refusal;
 use record::Tag;
 
-// The places of the left field come first. A pair above 64 places, which is never made, means its left alone: by the
-// rule that no type asks more than it did, since a type that ruled this out would ask that its sides be fields.
+/// The places of the left field come first. A pair above 64 places, which is never made, means its left alone: by the
+/// rule that no type asks more than it did, since a type that ruled this out would ask that its sides be fields.
 #[derive(Drop)]
 pub struct Pair<L, R> {
     left: L,
@@ -25,7 +25,7 @@ pub struct Pair<L, R> {
 }
 
 impl<L: Field, R: Field> Pair<L, R> {
-    // Both fields as one, or both back if they have more than 64 places.
+    /// Both fields as one, or both back if they have more than 64 places.
     #[tactic(auto, using(crate::proofs::Joining::splits))]
     pub fn new(left: L, right: R) -> Result<Pair<L, R>, Declined<(L, R)>>
         ensures refusal { declined_by result
@@ -45,7 +45,7 @@ impl<L: Field, R: Field> Pair<L, R> {
 }
 
 impl<L, R> Pair<L, R> {
-    // Gives both fields back.
+    /// Gives both fields back.
     pub fn into_parts(self) -> (L, R)
         ensures { result ≡ (left_of self, right_of self) }
     {

@@ -1,7 +1,7 @@
 // A field whose lone replies are spoiled now and then.
 ghost use Rattle.std.specs.Prelude.{◌<◌};
 
-// Hears each lone reply of a certain number as a clash, counted from its making.
+/// Hears each lone reply of a certain number as a clash, counted from its making.
 #[derive(Drop)]
 pub struct Spoiler<F> {
     pub(crate) field: F,

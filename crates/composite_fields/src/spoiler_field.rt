@@ -14,7 +14,7 @@ use protocol::refusal::Refusal;
 use record::Tag;
 
 impl<F> Spoiler<F> {
-    // A spoiler over a field, or the field back if the period is 0.
+    /// A spoiler over a field, or the field back if the period is 0.
     pub fn new(field: F, period: u16) -> Result<Spoiler<F>, Declined<F>>
         ensures refusal { declined_by result ≡ (if nat_eq period 0 then Some 11 else None) }
         ensures made { IfOk result
@@ -44,7 +44,7 @@ impl<F> Spoiler<F> {
         if next < period { next } else { 0 }
     }
 
-    // Gives the field back.
+    /// Gives the field back.
     pub fn into_inner(self) -> F
         ensures { result ≡ field_of self }
     {

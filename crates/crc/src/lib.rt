@@ -23,7 +23,7 @@ const PRESET: u16 = 0xffff;
 // A number is inverted by taking it from this one.
 const ONES: u16 = 0xffff;
 
-// The 16-bit register that a message goes through, bit by bit.
+/// The 16-bit register that a message goes through, bit by bit.
 #[derive(Clone, Copy)]
 pub struct Register {
     value: u16,
@@ -39,35 +39,35 @@ impl Model for Register {
 }
 
 impl Register {
-    // The register before any bit: all ones.
+    /// The register before any bit: all ones.
     pub fn preset() -> Register
         ensures { result ≡ 0xffff }
     {
         Register { value: PRESET }
     }
 
-    // One more bit, for who takes a message off the air.
+    /// One more bit, for who takes a message off the air.
     pub fn take_bit(&mut self, bit: bool)
         ensures { self.new ≡ bit_taken self.old (if bit then 1 else 0) }
     {
         self.value = after_bit(self.value, bit);
     }
 
-    // One more byte, its highest bit first.
+    /// One more byte, its highest bit first.
     pub fn take_byte(&mut self, byte: u8)
         ensures { self.new ≡ byte_taken self.old byte }
     {
         self.value = after_byte(self.value, byte);
     }
 
-    // Some more bytes.
+    /// Some more bytes.
     pub fn take(&mut self, bytes: &[u8])
         ensures { self.new ≡ fold byte_taken self.old bytes.now }
     {
         self.value = after_bytes(self.value, bytes);
     }
 
-    // The check value of what went through: the register inverted.
+    /// The check value of what went through: the register inverted.
     pub fn check_value(&self) -> u16
         ensures { result ≡ 0xffff - self.now }
     {
@@ -75,8 +75,8 @@ impl Register {
     }
 }
 
-// The check value of a message: the register over it, inverted. The message with it, high byte first, always leaves
-// the same value in the register.
+/// The check value of a message: the register over it, inverted. The message with it, high byte first, always leaves
+/// the same value in the register. The rule is in docs/frames.md.
 #[tactic(auto, using(crate::proofs::Standard::check_vector))]
 pub fn check_value(message: &[u8]) -> u16
     ensures value { result ≡ check_value message.now }

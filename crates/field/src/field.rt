@@ -16,13 +16,14 @@ use crate::hearing::Hearing;
 use protocol::refusal::Refusal;
 use reply::LONGEST_REPLY;
 
-// The most places that a field has.
+/// The most places that a field has.
 pub const PLACES: usize = 64;
 
-// How many bytes a send writes into its reply buffer: as many as the longest reply has.
+/// How many bytes a send writes into its reply buffer: as many as the longest reply has.
 pub const ROOM: usize = LONGEST_REPLY;
 
-// A field is anything that answers a reader. It means a list of tags; a tag's place is its position, from 0.
+/// A field is anything that answers a reader. It means a list of tags; a tag's place is its position, from 0.
+/// docs/fields.md has the rules, docs/library.md a kind of one's own.
 pub trait Field {
     // The tags that the field means.
     ghost tags: { Self → List Tag };
@@ -43,18 +44,19 @@ pub trait Field {
     // What it promises of a gap: the field before, the microseconds, and the field after.
     ghost passes: { Self → ℕ → Self → Type 0 };
 
+    /// How many places there are.
     fn places(&self) -> usize
         ensures { result ≡ length (tags self.now) };
 
-    // Lets so many microseconds pass.
+    /// Lets so many microseconds pass.
     fn pass(&mut self, microseconds: u32)
         ensures tags { tags self.new ≡ after_gap_all microseconds (tags self.old) }
         ensures places { InPlace (λ _. after_gap microseconds) (tags self.old) (tags self.new) }
         ensures as_faithful { faithful self.new ≡ faithful self.old }
         ensures kind { passes self.old microseconds self.new };
 
-    // Sends a frame, any bytes, with a row of coins: the tag at place i takes bit i. What is heard of it stands in the
-    // buffer after that: a lone reply followed by 00, otherwise 00 alone.
+    /// Sends a frame, any bytes, with a row of coins: the tag at place i takes bit i. What is heard of it stands in the
+    /// buffer after that: a lone reply followed by 00, otherwise 00 alone.
     fn send(&mut self, bytes: &[u8], row: u64, buffer: &mut [u8]) -> Result<Hearing, Refusal>
         ensures refusal { refusal_in result ≡ (if is_short (length buffer.old) then Some 5 else None) }
         ensures tags { tags self.new ≡ tags_after_send (length buffer.old) bytes.now row (tags self.old) }

@@ -4,24 +4,26 @@ ghost use Rattle.field.specs.Airs.{hearing_number, hearing_name, together};
 
 use std::fmt;
 
+/// Silence, a lone reply, or a clash. docs/fields.md has what may be heard when.
 #[derive(Clone, Copy, PartialEq, Eq, Debug)]
 pub enum Hearing {
-    // No reply.
+    /// No reply.
     Silence = 0,
-    // One reply, which can be read.
+    /// One reply, which can be read.
     Lone = 1,
-    // Several replies at once, or one that was spoiled on its way.
+    /// Several replies at once, or one that was spoiled on its way.
     Clash = 2,
 }
 
 impl Hearing {
-    // The number by which the hearing is known outside.
+    /// The number by which the hearing is known outside.
     pub fn number(self) -> u8
         ensures number { result ≡ hearing_number self }
     {
         self as u8
     }
 
+    /// The hearing in words, as programs print it.
     pub fn name(self) -> &'static str
         ensures { result.now ≡ hearing_name self }
     {
@@ -32,7 +34,7 @@ impl Hearing {
         }
     }
 
-    // What is heard of two groups of tags at once: two that are not silent are a clash.
+    /// What is heard of two groups of tags at once: two that are not silent are a clash.
     pub fn with(self, other: Hearing) -> Hearing
         ensures hearing { result ≡ together self other }
     {

@@ -18,16 +18,16 @@ use notation::hexadecimal::{Hex, read_bytes};
 use std::alloc::Global;
 use std::fmt;
 
-// How long the buffer of a case is, and what it holds at first.
+/// How long the buffer of a case is, and what it holds at first.
 pub const BUFFER: usize = 300;
 
 const FILLING: u8 = 0xa5;
 
-// What is sent.
+/// What is sent.
 #[derive(Drop)]
 pub struct SendQuestion {
     pub row: u64,
-    // How much of the buffer is lent.
+    /// How much of the buffer is lent.
     pub room: usize,
     pub frame: Vec<u8>,
     ghost inside: { room ≤ 300 },
@@ -48,7 +48,7 @@ impl SendQuestion {
     }
 }
 
-// A field, and the buffer for its replies.
+/// A field, and the buffer for its replies.
 #[derive(Drop)]
 pub struct AskedField<F> {
     pub field: F,
@@ -102,7 +102,7 @@ impl<F: Lending> AskedField<F> {
     }
 }
 
-// What came of a send.
+/// What came of a send.
 #[derive(Drop)]
 pub struct SendAnswer {
     pub heard: Result<Hearing, Refusal>,

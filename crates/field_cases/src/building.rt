@@ -20,12 +20,12 @@ use std::mem;
 use std::num::ParseIntError;
 use std::str::{FromStr, SplitWhitespace};
 
-// Why there is no field.
+/// Why there is no field.
 #[derive(Drop)]
 pub enum Trouble {
-    // A part of it was refused.
+    /// A part of it was refused.
     Refused(Refusal),
-    // The words make no sense.
+    /// The words make no sense.
     Words(anyhow::Error),
 }
 
@@ -41,7 +41,7 @@ impl<T: Drop> From<Declined<T>> for Trouble {
     }
 }
 
-// What fields are built from: the words of a nesting, one after the other, and the tags that none has yet.
+/// What fields are built from: the words of a nesting, one after the other, and the tags that none has yet.
 #[derive(Drop)]
 pub struct Source<'w, 'a> {
     words: Peekable<SplitWhitespace<'w>>,
@@ -99,13 +99,15 @@ pub(crate) fn built<'a, F: Build<'a> + Drop>(
     parts.joined()
 }
 
-// A kind of field that words can tell. It is built of the first tags, and the others stay.
+/// A kind of field that words can tell. It is built of the first tags, and the others stay.
 pub trait Build<'a>: Lending + Sized {
+    /// Builds a field of the next words, or says why there is none.
     fn build(source: &mut Source<'_, 'a>) -> Result<Self, Trouble>
         ensures { IfOk result (λ f. source.old.tags.now ≡ Self.tags f ++ source.new.tags.now) };
 }
 
 impl<'a> Build<'a> for Leaf<'a> {
+    /// Builds a field of the next words, or says why there is none.
     fn build(source: &mut Source<'_, 'a>) -> Result<Leaf<'a>, Trouble> {
         match source.word()? {
             "bench" => bench_leaf(source),
@@ -173,6 +175,7 @@ impl<F> Parts<F> {
 }
 
 impl<'a, F: Build<'a> + Drop> Build<'a> for Node<F> {
+    /// Builds a field of the next words, or says why there is none.
     fn build(source: &mut Source<'_, 'a>) -> Result<Node<F>, Trouble> {
         Parts::read(source)?.joined()
     }

@@ -14,11 +14,11 @@ use composite_fields::spoiler::Spoiler;
 use protocol::refusal::Refusal;
 use record::Tag;
 
-// What stands below the outermost layer of a nesting of at most three.
+/// What stands below the outermost layer of a nesting of at most three.
 pub type Below<'a> = Node<Node<Leaf<'a>>>;
 
-// What stands at the bottom. An enum hands each call on by a match: a boxed `dyn` would need the same calls handed on
-// for the box, and an allocation for each layer.
+/// What stands at the bottom. An enum hands each call on by a match: a boxed `dyn` would need the same calls handed on
+/// for the box, and an allocation for each layer.
 #[derive(Drop)]
 pub enum Leaf<'a> {
     Table(Bench<'a>),
@@ -76,7 +76,7 @@ impl<'a> Lending for Leaf<'a> {
     }
 }
 
-// A field with at most one layer more over it, as an enum for the same reason.
+/// A field with at most one layer more over it, as an enum for the same reason.
 #[derive(Drop)]
 pub enum Node<F> {
     Bare(F),

@@ -20,7 +20,7 @@ pub(crate) fn without_end(bytes: &[u8]) -> &[u8]
     bytes
 }
 
-// A number of 64 bits that tells what bytes it has taken (FNV-1a).
+/// A number of 64 bits that tells what bytes it has taken (FNV-1a).
 #[derive(Clone, Copy)]
 pub struct Fingerprint {
     value: u64,

@@ -29,6 +29,7 @@ const UNUSED: ListedSlot = ListedSlot {
 // How many bytes a sheet has room for.
 const PAGE: usize = 16384;
 
+/// What the two lists of a sweep are kept in.
 #[derive(Drop)]
 pub struct Storage {
     slots: [ListedSlot; SLOTS],

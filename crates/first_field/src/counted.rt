@@ -7,7 +7,7 @@ use field::field::Field;
 use field::hearing::Hearing;
 use protocol::refusal::Refusal;
 
-// A layer over a field of any kind: it hands on what it is sent, and counts it.
+/// A layer over a field of any kind: it hands on what it is sent, and counts it.
 #[derive(Drop)]
 pub struct Counted<F> {
     field: F,
@@ -15,7 +15,7 @@ pub struct Counted<F> {
 }
 
 impl<F: Field> Counted<F> {
-    // The field, with nothing counted yet.
+    /// The field, with nothing counted yet.
     pub fn new(field: F) -> Counted<F>
         ensures field { field_of result ≡ field }
         ensures sends { sends_of result ≡ 0 }
@@ -23,14 +23,14 @@ impl<F: Field> Counted<F> {
         Counted { field, sends: 0 }
     }
 
-    // How many sends it has handed on. The greatest number that fits stands for all above it too.
+    /// How many sends it has handed on. The greatest number that fits stands for all above it too.
     pub fn sends(&self) -> u64
         ensures { result ≡ sends_of self.now }
     {
         self.sends
     }
 
-    // Gives the field back.
+    /// Gives the field back.
     pub fn into_inner(self) -> F
         ensures { result ≡ field_of self }
     {

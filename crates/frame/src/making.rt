@@ -9,11 +9,12 @@ use crate::writer::Writer;
 use protocol::command::{Command, Entry};
 use protocol::refusal::Refusal;
 
-// How many bytes the longest frame has.
+/// How many bytes the longest frame has.
 pub const LONGEST_FRAME: usize = 17;
 
-// Makes the frame of a code with its parameters, and tells its length. It opens as that code with those parameters.
-// Callers give the two as they have them, which may be no frame's; a `Draft` is made of those that are.
+/// Makes the frame of a code with its parameters, and tells its length. It opens as that code with those parameters.
+/// Callers give the two as they have them, which may be no frame's; a `Draft` is made of those that are.
+/// The refusals, 3 to 5, and their order are in docs/frames.md.
 #[tactic(auto, using(crate::proofs::Limits::bare_frames))]
 pub fn make(code: u8, parameters: &[u8], buffer: &mut [u8]) -> Result<usize, Refusal>
     ensures answer { write_result result ≡ result_of (making code parameters.now (length buffer.old)) }

@@ -13,7 +13,7 @@ use crc::Register;
 use protocol::command::Entry;
 use protocol::refusal::Refusal;
 
-// A frame that opened: the caller's bytes, their code and their request.
+/// A frame that opened: the caller's bytes, their code and their request.
 #[derive(Clone, Copy)]
 pub struct Frame<'a> {
     bytes: &'a [u8],
@@ -21,8 +21,8 @@ pub struct Frame<'a> {
     request: Request<'a>,
 }
 
-// Opens a frame, or tells why not. Each parameter lies in the bytes at its offset, and the bytes are the one frame that
-// making gives for that code and those parameters.
+/// Opens a frame, or tells why not. Each parameter lies in the bytes at its offset, and the bytes are the one frame that
+/// making gives for that code and those parameters. The refusals, 1 to 4, and their order are in docs/frames.md.
 #[tactic(auto, using(crate::proofs::Limits::damaged_frames))]
 pub fn open(bytes: &[u8]) -> Result<Frame<'_>, Refusal>
     ensures seen { opening_of result ≡ opening bytes.now }
@@ -37,21 +37,21 @@ pub fn open(bytes: &[u8]) -> Result<Frame<'_>, Refusal>
 }
 
 impl<'a> Frame<'a> {
-    // The bytes that it was opened from.
+    /// The bytes that it was opened from.
     pub fn bytes(&self) -> &'a [u8]
         ensures { result.now ≡ bytes_of_frame self.now }
     {
         self.bytes
     }
 
-    // The code, its first byte.
+    /// The code, its first byte.
     pub fn code(&self) -> u8
         ensures { result ≡ code_of_frame self.now }
     {
         self.code
     }
 
-    // The command with its parameters.
+    /// The command with its parameters.
     pub fn request(&self) -> Request<'a>
         ensures { result ≡ request_of_frame self.now }
     {

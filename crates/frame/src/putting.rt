@@ -9,7 +9,7 @@ use crate::writer::Writer;
 use protocol::refusal::Refusal;
 
 impl<'a> Writer<'a> {
-    // Puts some bytes behind those that are there, or none of them where they do not all fit.
+    /// Puts some bytes behind those that are there, or none of them where they do not all fit.
     pub fn put(&mut self, bytes: &[u8]) -> Result<(), Refusal>
         ensures put { Put bytes.now self.old self.new (is_ok result) }
         ensures refusal { IfErr result (λ e. number_of e ≡ 5) }
@@ -24,7 +24,7 @@ impl<'a> Writer<'a> {
         Ok(())
     }
 
-    // Puts the check value of all that was put behind it, or nothing where it does not fit.
+    /// Puts the check value of all that was put behind it, or nothing where it does not fit.
     #[tactic(auto, using(crate::proofs::Limits::short_replies))]
     pub fn seal(&mut self) -> Result<(), Refusal>
         ensures put { Put (high_byte_first (0xffff - register_of self.old)) self.old self.new (is_ok result) }

@@ -8,27 +8,27 @@ ghost use Rattle.protocol.specs.declared.command.Parameter.TheVariants.{Length, 
 
 use protocol::command::{Command, Parameter};
 
-// A parameter, as a part of the frame's own bytes, and its offset in the frame.
+/// A parameter, as a part of the frame's own bytes, and its offset in the frame.
 #[derive(Clone, Copy)]
 pub struct At<T> {
     pub offset: usize,
     pub part: T,
 }
 
-// A parameter of one byte.
+/// A parameter of one byte.
 pub type ByteAt<'a> = At<&'a u8>;
 
-// A parameter of several bytes.
+/// A parameter of several bytes.
 pub type BytesAt<'a> = At<&'a [u8]>;
 
-// Where a parameter lies in its frame.
+/// Where a parameter lies in its frame.
 #[derive(Clone, Copy, PartialEq, Eq, Debug)]
 pub struct Span {
     pub offset: usize,
     pub length: usize,
 }
 
-// What a tag's memory is compared with.
+/// What a tag's memory is compared with.
 #[derive(Clone, Copy)]
 pub struct Comparison<'a> {
     pub address: ByteAt<'a>,
@@ -36,14 +36,14 @@ pub struct Comparison<'a> {
     pub word: BytesAt<'a>,
 }
 
-// Which tag is meant, and where in its memory.
+/// Which tag is meant, and where in its memory.
 #[derive(Clone, Copy)]
 pub struct Target<'a> {
     pub serial: BytesAt<'a>,
     pub address: ByteAt<'a>,
 }
 
-// A command with its parameters.
+/// A command with its parameters.
 #[derive(Clone, Copy)]
 pub enum Request<'a> {
     Select(Comparison<'a>),
@@ -63,7 +63,7 @@ pub enum Request<'a> {
 }
 
 impl<'a> Request<'a> {
-    // The command alone.
+    /// The command alone.
     pub fn command(&self) -> Command
         ensures { result ≡ command_of self.now }
     {
@@ -85,7 +85,7 @@ impl<'a> Request<'a> {
         }
     }
 
-    // Where a parameter lies in the frame, if the command has it.
+    /// Where a parameter lies in the frame, if the command has it.
     pub fn span(&self, parameter: Parameter) -> Option<Span>
         ensures { result ≡ span_of parameter (parts_of self.now) }
     {

@@ -3,8 +3,8 @@ ghost use Rattle.std.specs.Prelude.{◌≡◌, ◌≤◌, length};
 
 use crc::Register;
 
-// The buffer, how many of its bytes are filled, and the register over those that were put. The buffer is the caller's,
-// since this is for use without a heap, and so the bytes that are filled are counted beside it.
+/// The buffer, how many of its bytes are filled, and the register over those that were put. The buffer is the caller's,
+/// since this is for use without a heap, and so the bytes that are filled are counted beside it.
 #[derive(Drop)]
 pub struct Writer<'a> {
     pub(crate) buffer: &'a mut [u8],
@@ -16,6 +16,7 @@ pub struct Writer<'a> {
 impl<'a> Writer<'a> {
     ghost use Rattle.frame.specs.Writing.{filled_of, Begun};
 
+    /// A writer at the front of a buffer, of which nothing is filled yet.
     pub fn new(buffer: &'a mut [u8]) -> Writer<'a>
         ensures { Begun buffer.entry result }
     {
@@ -26,6 +27,7 @@ impl<'a> Writer<'a> {
         }
     }
 
+    /// How many bytes are filled.
     pub fn filled(&self) -> usize
         ensures { result ≡ filled_of self.now }
     {

@@ -1,7 +1,7 @@
-// What a field is asked, call by call.
+/// What a field is asked, call by call.
 #[derive(Clone, Copy)]
 pub enum Call<'a> {
-    // A frame with its row of coins, and how long the reply buffer is.
+    /// A frame with its row of coins, and how long the reply buffer is.
     Send {
         frame: &'a [u8],
         row: u64,
@@ -10,6 +10,6 @@ pub enum Call<'a> {
     Gap {
         microseconds: u32,
     },
-    // A sweep, with the coins, the budget and the lists of the workspace.
+    /// A sweep, with the coins, the budget and the lists of the workspace.
     Sweep,
 }

@@ -8,7 +8,7 @@ use slice_vec::vec::SliceVec;
 use slot::ending::Report;
 use slot::lists::Lists;
 
-// What a call has come to. What a sweep has listed stands in the lists of its workspace.
+/// What a call has come to. What a sweep has listed stands in the lists of its workspace.
 #[derive(Clone, Copy, PartialEq, Eq, Debug)]
 pub enum Answer {
     Refused(Refusal),
@@ -17,7 +17,7 @@ pub enum Answer {
     Swept(Report),
 }
 
-// The coins, the budget and the lists of a sweep, which other calls leave as they are, and a place for the answer.
+/// The coins, the budget and the lists of a sweep, which other calls leave as they are, and a place for the answer.
 #[derive(Drop)]
 pub struct Workspace<'a> {
     pub coins: &'a [u64],
@@ -27,7 +27,7 @@ pub struct Workspace<'a> {
 }
 
 impl<'a> Workspace<'a> {
-    // A workspace for any call.
+    /// A workspace for any call.
     pub fn new(coins: &'a [u64], budget: u16, lists: Lists<'a>) -> Workspace<'a>
         ensures coins { result.coins.now ≡ coins.now }
         ensures budget { result.budget ≡ budget }
@@ -42,7 +42,7 @@ impl<'a> Workspace<'a> {
         }
     }
 
-    // A workspace for a call that is no sweep: no coins, no commands, and lists without room.
+    /// A workspace for a call that is no sweep: no coins, no commands, and lists without room.
     pub fn bare() -> Workspace<'a>
         ensures coins { result.coins.now ≡ [] }
         ensures budget { result.budget ≡ 0 }

@@ -9,7 +9,7 @@ use record::Tag;
 use reply::{LONGEST_REPLY, Reply};
 use std::alloc::Global;
 
-// The frame of a code with its parameters.
+/// The frame of a code with its parameters.
 pub fn make_frame(heap: Global, code: u8, parameters: &[u8]) -> Result<Vec<u8>, NotationError>
     ensures ok { IfOk result (λ bytes. IsFrame code parameters.now bytes.items) }
     ensures err { IfErr result (λ e. (e ≡ Memory) ⊎ IsNoFrame code parameters.now e) }
@@ -20,8 +20,8 @@ pub fn make_frame(heap: Global, code: u8, parameters: &[u8]) -> Result<Vec<u8>, 
     Ok(frame)
 }
 
-// A tag's reply, with its check value, or no bytes for none. Like `framed`, but each says by its own call what its
-// buffer holds, which a closure's contract could only say again.
+/// A tag's reply, with its check value, or no bytes for none. Like `framed`, but each says by its own call what its
+/// buffer holds, which a closure's contract could only say again.
 pub fn write_reply(heap: Global, tag: &Tag, reply: Option<Reply>) -> Result<Vec<u8>, NotationError>
     ensures ok { IfOk result (λ bytes. bytes.items ≡ reply_bytes tag.now reply) }
     ensures err { IfErr result (λ e. e ≡ Memory) }

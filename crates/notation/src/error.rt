@@ -10,23 +10,24 @@ use std::alloc::AllocError;
 use std::error::Error;
 use std::fmt;
 
+/// Why a text is not read, or a frame not made.
 #[derive(Clone, Copy, PartialEq, Eq, Debug)]
 pub enum NotationError {
-    // A text that is no bytes in hexadecimal, or not as many as are wanted.
+    /// A text that is no bytes in hexadecimal, or not as many as are wanted.
     Bytes,
-    // A text that is neither 0 nor 1.
+    /// A text that is neither 0 nor 1.
     Bit,
-    // A text that names no state.
+    /// A text that names no state.
     State,
-    // A text that is no write mark.
+    /// A text that is no write mark.
     Mark,
-    // No word where one is wanted.
+    /// No word where one is wanted.
     Missing,
-    // A word where none is wanted.
+    /// A word where none is wanted.
     Surplus,
-    // A call that makes no frame.
+    /// A call that makes no frame.
     Refused(Refusal),
-    // There was no memory for what was to come.
+    /// There was no memory for what was to come.
     Memory,
 }
 

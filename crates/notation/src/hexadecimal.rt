@@ -11,7 +11,7 @@ use hex::FromHex;
 use std::alloc::Global;
 use std::fmt;
 
-// Bytes, as they are written, with something between each two of them.
+/// Bytes, as they are written, with something between each two of them.
 #[derive(Drop)]
 pub struct Hex<'a> {
     pub bytes: &'a [u8],
@@ -19,6 +19,7 @@ pub struct Hex<'a> {
 }
 
 impl<'a> Hex<'a> {
+    /// Bytes with nothing between them: `EF0402`.
     pub fn new(bytes: &'a [u8]) -> Hex<'a>
         ensures bytes { result.bytes.now ≡ bytes.now }
         ensures between { result.between.now ≡ [] }
@@ -26,6 +27,7 @@ impl<'a> Hex<'a> {
         Hex { bytes, between: "" }
     }
 
+    /// Bytes with a space between each two: `EF 04 02`.
     pub fn spaced(bytes: &'a [u8]) -> Hex<'a>
         ensures bytes { result.bytes.now ≡ bytes.now }
         ensures between { result.between.now ≡ codes " " }
@@ -62,7 +64,7 @@ fn write_byte<W: fmt::Write>(f: &mut fmt::Formatter<W>, byte: u8) -> fmt::Result
     write!(f, "{byte:02X}")
 }
 
-// The bytes that a text spells.
+/// The bytes that a text spells.
 pub fn read_bytes(heap: Global, text: &str) -> Result<Vec<u8>, NotationError>
     ensures ok { IfOk result (λ bytes. SpellsBytes text.now bytes.items) }
     ensures err { IfErr result (λ e. (e ≡ Memory) ⊎ IsNoBytes text.now e) }
@@ -76,7 +78,7 @@ pub fn read_bytes(heap: Global, text: &str) -> Result<Vec<u8>, NotationError>
     Ok(hex::decode(heap, text)?)
 }
 
-// As many bytes as are wanted.
+/// As many bytes as are wanted.
 pub fn read_array<const N: usize>(text: &str) -> Result<[u8; N], NotationError>
     ensures array { Reads (SpellsArray N) Bytes text.now result }
 {
@@ -86,6 +88,7 @@ pub fn read_array<const N: usize>(text: &str) -> Result<[u8; N], NotationError>
     <[u8; N]>::from_hex(text).or(Err(NotationError::Bytes))
 }
 
+/// One byte, by its two digits.
 pub fn read_byte(text: &str) -> Result<u8, NotationError>
     ensures byte { Reads SpellsByte Bytes text.now result }
 {

@@ -5,7 +5,7 @@ ghost use Rattle.notation.specs.Errors.{line_text};
 
 use std::fmt;
 
-// A line of the input, by its number from 1.
+/// A line of the input, by its number from 1.
 #[derive(Clone, Copy)]
 pub struct Line {
     pub number: usize,

@@ -6,10 +6,10 @@ ghost use Rattle.notation.specs.Samples.{sample_serial, sample_memory, numbered_
 use record::{MEMORY_LENGTH, Serial, Tag};
 use std::alloc::{AllocError, Global};
 
-// The serial number of the tag that is shown on its own.
+/// The serial number of the tag that is shown on its own.
 pub const SERIAL: Serial = [0xef, 0x04, 0x02, 0x00, 0x00, 0x00, 0x00, 0x01];
 
-// That of any other, by its last byte.
+/// That of any other, by its last byte.
 pub fn numbered_serial(number: u8) -> Serial
     ensures { result ≡ numbered_serial number }
 {
@@ -18,7 +18,7 @@ pub fn numbered_serial(number: u8) -> Serial
     serial
 }
 
-// The tag with that serial number, new, with 00 in all other bytes.
+/// The tag with that serial number, new, with 00 in all other bytes.
 pub fn numbered_tag(number: u8) -> Tag
     ensures tag { result ≡ new_tag (numbered_memory number) }
 {
@@ -27,14 +27,14 @@ pub fn numbered_tag(number: u8) -> Tag
     Tag::new(memory)
 }
 
-// The tag that is shown on its own.
+/// The tag that is shown on its own.
 pub fn sample_tag() -> Tag
     ensures tag { result ≡ new_tag sample_memory }
 {
     numbered_tag(SERIAL[7])
 }
 
-// Its serial number, and what stands behind it.
+/// Its serial number, and what stands behind it.
 pub fn to_tag(heap: Global, rest: &[u8]) -> Result<Vec<u8>, AllocError>
     ensures { IfOk result (λ bytes. bytes.items ≡ sample_serial ++ rest.now) }
 {

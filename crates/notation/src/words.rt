@@ -15,21 +15,21 @@ use std::str::SplitWhitespace;
 // A lock bit for each of a tag's bytes.
 const LOCK_BYTES: usize = MEMORY_LENGTH / 8;
 
-// A word that has to be there.
+/// A word that has to be there.
 pub fn word(next: Option<&str>) -> Result<&str, NotationError>
     ensures { MatchOption next.entry (result ≡ Err Missing) (λ text. result ≡ Ok text) }
 {
     next.ok_or(NotationError::Missing)
 }
 
-// No word, where there may be none.
+/// No word, where there may be none.
 pub fn no_word(next: Option<&str>) -> Result<(), NotationError>
     ensures { MatchOption next.entry (result ≡ Ok tt) (λ _. result ≡ Err Surplus) }
 {
     next.map_or(Ok(()), |_| Err(NotationError::Surplus))
 }
 
-// `parse` would read `true` and `false` instead.
+/// `parse` would read `true` and `false` instead.
 pub fn read_bit(text: &str) -> Result<bool, NotationError>
     ensures bit { Reads SpellsBit Bit text.now result }
 {
@@ -46,7 +46,7 @@ pub fn read_state(text: &str) -> Result<State, NotationError>
     text.parse::<State>().or(Err(NotationError::State))
 }
 
-// By its one digit, since 01 and +1 are none of a mark's spellings.
+/// By its one digit, since 01 and +1 are none of a mark's spellings.
 pub fn read_mark(text: &str) -> Result<WriteMark, NotationError>
     ensures mark { Reads SpellsMark Mark text.now result }
 {
@@ -56,7 +56,7 @@ pub fn read_mark(text: &str) -> Result<WriteMark, NotationError>
     WriteMark::try_from(*digit - b'0').or(Err(NotationError::Mark))
 }
 
-// An address, or a dash for none.
+/// An address, or a dash for none.
 pub fn read_permission(text: &str) -> Result<Option<u8>, NotationError>
     ensures permission { Reads SpellsPermission Bytes text.now result }
 {
@@ -66,7 +66,7 @@ pub fn read_permission(text: &str) -> Result<Option<u8>, NotationError>
     Ok(Some(read_byte(text)?))
 }
 
-// The highest bit of the first byte is address 00.
+/// The highest bit of the first byte is address 00.
 pub fn read_locks(text: &str) -> Result<[bool; MEMORY_LENGTH], NotationError>
     ensures locks { Reads SpellsLocks Bytes text.now result }
 {
@@ -74,7 +74,7 @@ pub fn read_locks(text: &str) -> Result<[bool; MEMORY_LENGTH], NotationError>
     Ok(array::from_fn(|address| (bytes[address / 8] >> (7 - address % 8)) % 2 == 1))
 }
 
-// A record's state, ID flag, counter, write mark and permission, by a word each; memory and locks stay.
+/// A record's state, ID flag, counter, write mark and permission, by a word each; memory and locks stay.
 #[tactic(auto, using(crate::proofs::Parts::no_state))]
 pub fn read_parts(words: &mut SplitWhitespace<'_>, tag: Tag) -> Result<Tag, NotationError>
     ensures ok { IfOk result (λ t. SpellsParts words.old words.new t) }

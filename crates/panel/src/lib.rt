@@ -20,7 +20,7 @@ use protocol::refusal::Refusal;
 // How many bytes tell what a frame holds: its code, then offset and length of each of the seven parameters.
 const SHOWN: usize = 15;
 
-// The check value of a message.
+/// The check value of a message.
 #[unsafe(no_mangle)]
 pub extern "C" fn nolbashi_check_value(message: &[u8]) -> u16
     ensures { result ≡ check_value message.now }
@@ -28,8 +28,8 @@ pub extern "C" fn nolbashi_check_value(message: &[u8]) -> u16
     check_value(message)
 }
 
-// Opens a frame, and shows its code and its parameters in the first bytes of `shown`. Answers 0, or the number of the
-// refusal, and then nothing is changed.
+/// Opens a frame, and shows its code and its parameters in the first bytes of `shown`. Answers 0, or the number of the
+/// refusal, and then nothing is changed. docs/panel.md has the places, and what a C caller must keep to.
 #[unsafe(no_mangle)]
 pub extern "C" fn nolbashi_open(frame: &[u8], shown: &mut [u8]) -> u8
     ensures answer { result ≡ status_of (opening frame.now) (length shown.old) }

@@ -5,6 +5,7 @@ ghost use Rattle.protocol.specs.Entries.{EntryOrRefusal};
 
 use crate::refusal::Refusal;
 
+/// The fourteen commands, each with its code. docs/frames.md has their parameters.
 #[derive(Clone, Copy, PartialEq, Eq, Debug)]
 pub enum Command {
     Select = 0x00,
@@ -23,26 +24,26 @@ pub enum Command {
     Write = 0x1b,
 }
 
-// What stands behind the code in a frame.
+/// What stands behind the code in a frame.
 #[derive(Clone, Copy)]
 pub enum Parameter {
-    // The serial number of the tag that is meant.
+    /// The serial number of the tag that is meant.
     Serial,
-    // An address in the tag's memory.
+    /// An address in the tag's memory.
     Address,
-    // Which of the data bytes count, the highest bit for the first.
+    /// Which of the data bytes count, the highest bit for the first.
     Mask,
-    // Eight bytes to compare with.
+    /// Eight bytes to compare with.
     Word,
-    // Four bytes to write.
+    /// Four bytes to write.
     Data,
-    // One less than the number of bytes to read.
+    /// One less than the number of bytes to read.
     Length,
-    // Two bytes that no tag looks at.
+    /// Two bytes that no tag looks at.
     Ignored,
 }
 
-// All parameters, in the order in which frames have them.
+/// All parameters, in the order in which frames have them.
 pub const PARAMETERS: [Parameter; 7] = [
     Parameter::Serial,
     Parameter::Address,
@@ -53,7 +54,7 @@ pub const PARAMETERS: [Parameter; 7] = [
     Parameter::Ignored,
 ];
 
-// A command, its code, and how many bytes its frame has, from the code to the check value.
+/// A command, its code, and how many bytes its frame has, from the code to the check value.
 #[derive(Clone, Copy)]
 pub struct Entry {
     pub command: Command,
@@ -61,7 +62,7 @@ pub struct Entry {
     pub length: usize,
 }
 
-// All commands. Opening and making both go by this table.
+/// All commands. Opening and making both go by this table.
 pub const COMMANDS: [Entry; 14] = [
     Entry {
         command: Command::Select,
@@ -135,12 +136,12 @@ pub const COMMANDS: [Entry; 14] = [
     },
 ];
 
-// The parameters of a SELECT of the chip's own tags, whose memory begins with EF 04: address 00, mask C0 for the first
-// two bytes, and a word of those two and six 00.
+/// The parameters of a SELECT of the chip's own tags, whose memory begins with EF 04: address 00, mask C0 for the first
+/// two bytes, and a word of those two and six 00.
 pub const OWN: [u8; 10] = [0x00, 0xc0, 0xef, 0x04, 0, 0, 0, 0, 0, 0];
 
 impl Command {
-    // The first byte of its frames.
+    /// The first byte of its frames.
     pub fn code(self) -> u8
         ensures { result ≡ code_of self }
     {
@@ -148,7 +149,7 @@ impl Command {
     }
 }
 
-// The entry of a code, if a command has it.
+/// The entry of a code, if a command has it.
 #[inline(always)]
 pub fn find(code: u8) -> Option<Entry>
     ensures entry { result ≡ first_entry code (map entry_of commands) }

@@ -6,6 +6,7 @@ use crate::command::{Command, Parameter};
 use std::fmt;
 
 impl Command {
+    /// The name in capitals, as the chip's users know it.
     pub fn name(self) -> &'static str
         ensures { result.now ≡ command_name self }
     {
@@ -29,6 +30,7 @@ impl Command {
 }
 
 impl Parameter {
+    /// The name in capitals, as the chip's users know it.
     pub fn name(self) -> &'static str
         ensures name { result.now ≡ parameter_name self }
     {

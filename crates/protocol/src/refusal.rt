@@ -6,29 +6,29 @@ ghost use Rattle.protocol.specs.Refusals.{number_of};
 use std::error::Error;
 use std::fmt;
 
-// The refusals, each with its number.
+/// The refusals, each with its number.
 #[derive(Clone, Copy, PartialEq, Eq, Debug)]
 pub enum Refusal {
-    // A frame of fewer than three bytes.
+    /// A frame of fewer than three bytes.
     Stub = 1,
-    // A wrong check value.
+    /// A wrong check value.
     Check = 2,
-    // A code that no command has.
+    /// A code that no command has.
     Code = 3,
-    // A length that the code's command does not have.
+    /// A length that the code's command does not have.
     Length = 4,
-    // A buffer that is too short.
+    /// A buffer that is too short.
     Buffer = 5,
-    // More than 64 places in a field.
+    /// More than 64 places in a field.
     Crowd = 6,
-    // No recorded row of coins, or more than 64.
+    /// No recorded row of coins, or more than 64.
     Coins = 10,
-    // A spoiler of each reply of no number.
+    /// A spoiler of each reply of no number.
     Period = 11,
 }
 
 impl Refusal {
-    // The number by which the refusal is known outside.
+    /// The number by which the refusal is known outside.
     pub fn number(self) -> u8
         ensures number { result ≡ number_of self }
     {

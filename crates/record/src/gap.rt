@@ -4,14 +4,14 @@ ghost use Rattle.record.specs.Gaps.{after_gap};
 
 use crate::{State, Tag, WriteMark};
 
-// The shortest gap, in microseconds, in which a tag loses its place in the reader's round.
+/// The shortest gap, in microseconds, in which a tag loses its place in the reader's round.
 pub const SHORT_GAP: u32 = 250;
 
-// The shortest gap, in microseconds, in which a tag loses its ID flag too.
+/// The shortest gap, in microseconds, in which a tag loses its ID flag too.
 pub const LONG_GAP: u32 = 4_000_000;
 
 impl Tag {
-    // Lets so many microseconds pass.
+    /// Lets so many microseconds pass. What a tag then forgets is in docs/tags.md.
     pub fn pass(&mut self, microseconds: u32)
         ensures tag { self.new ≡ after_gap microseconds self.old }
     {

@@ -14,28 +14,30 @@ mod masks;
 pub mod names;
 pub mod unknown;
 
-// How many bytes a tag has: addresses 00 to 37.
+/// How many bytes a tag has: addresses 00 to 37.
 pub const MEMORY_LENGTH: usize = 56;
 
-// How many of them, from the first on, are the serial number.
+/// How many of them, from the first on, are the serial number.
 pub const SERIAL_LENGTH: usize = 8;
 
+/// The bytes of a tag, from address 00 to 37.
 pub type Memory = [u8; MEMORY_LENGTH];
 
+/// A serial number: the first eight bytes of a memory.
 pub type Serial = [u8; SERIAL_LENGTH];
 
-// What a tag is doing for the reader.
+/// What a tag is doing for the reader.
 #[derive(Clone, Copy, PartialEq, Eq, Debug)]
 pub enum State {
-    // Waits to be selected.
+    /// Waits to be selected.
     Ready = 0,
-    // Selected, and answers in its turn.
+    /// Selected, and answers in its turn.
     Singulation = 1,
-    // Has been read or written by its serial number.
+    /// Has been read or written by its serial number.
     Inventoried = 2,
 }
 
-// For how many frames more a tag knows that it was written or locked.
+/// For how many frames more a tag knows that it was written or locked.
 #[derive(Clone, Copy, PartialEq, Eq, Debug)]
 pub enum WriteMark {
     Clear = 0,
@@ -43,32 +45,33 @@ pub enum WriteMark {
     Fresh = 2,
 }
 
-// The record of a tag. Each value of these types is one that a tag can have, so every part is open to its owner.
+/// The record of a tag. Each value of these types is one that a tag can have, so every part is open to its owner.
+/// docs/tags.md says what each part is for.
 #[derive(Clone, Copy)]
 pub struct Tag {
     pub memory: Memory,
-    // For each byte, whether it can no more be written. The locks lie beside the bytes and not with them, so that the
-    // bytes can be lent in one piece.
+    /// For each byte, whether it can no more be written. The locks lie beside the bytes and not with them, so that the
+    /// bytes can be lent in one piece.
     pub locks: [bool; MEMORY_LENGTH],
     pub state: State,
-    // The ID flag.
+    /// The ID flag.
     pub identified: bool,
-    // How many groups answer before this tag does.
+    /// How many groups answer before this tag does.
     pub counter: u8,
     pub mark: WriteMark,
-    // The address that the next frame may lock.
+    /// The address that the next frame may lock.
     pub permission: Option<u8>,
 }
 
 impl WriteMark {
-    // The mark as a number from 0 to 2.
+    /// The mark as a number from 0 to 2.
     pub fn number(self) -> u8
         ensures { result ≡ mark_number self }
     {
         self as u8
     }
 
-    // One less, if it is not 0.
+    /// One less, if it is not 0.
     pub fn fallen(self) -> WriteMark
         ensures mark { result ≡ fallen self }
         ensures number { mark_number result ≡ mark_number self - 1 }
@@ -79,7 +82,7 @@ impl WriteMark {
         }
     }
 
-    // WRITE_OK, of a mark that has fallen.
+    /// WRITE_OK, of a mark that has fallen.
     pub fn is_ok(self) -> bool
         ensures { result ≡ is_write_ok self }
     {
@@ -91,7 +94,7 @@ impl WriteMark {
 }
 
 impl Tag {
-    // A new tag: READY, with its first two bytes locked and all else clear.
+    /// A new tag: READY, with its first two bytes locked and all else clear.
     pub fn new(memory: Memory) -> Tag
         ensures tag { result ≡ new_tag memory }
     {
@@ -109,14 +112,15 @@ impl Tag {
         }
     }
 
+    /// The serial number, the first eight bytes.
     pub fn serial(&self) -> &[u8]
         ensures { result.now ≡ serial_of self.now }
     {
         &self.memory[..SERIAL_LENGTH]
     }
 
-    // Whether these are the tag's serial number. In a crowd most differ in the last byte, which is cheap to compare:
-    // the whole costs a call, and every tag would make it at each frame to one of them.
+    /// Whether these are the tag's serial number. In a crowd most differ in the last byte, which is cheap to compare:
+    /// the whole costs a call, and every tag would make it at each frame to one of them.
     pub fn has_serial(&self, serial: &[u8]) -> bool
         ensures { result ≡ bytes_eq (serial_of self.now) serial.now }
     {
@@ -125,14 +129,14 @@ impl Tag {
             && self.serial() == serial
     }
 
-    // The byte at an address, 00 above 37.
+    /// The byte at an address, 00 above 37.
     pub fn byte(&self, address: usize) -> u8
         ensures { result ≡ byte_at self.now address }
     {
         element(&self.memory, address, 0)
     }
 
-    // Whether the byte at an address is locked, as all above 37 are.
+    /// Whether the byte at an address is locked, as all above 37 are.
     pub fn is_locked(&self, address: usize) -> bool
         ensures locked { result ≡ locked_at self.now address }
     {

@@ -6,7 +6,7 @@ ghost use Rattle.record.specs.Masks.{selects, agrees_at, matches, stored_at, sto
 use crate::{MEMORY_LENGTH, Tag, element};
 
 impl Tag {
-    // Whether the selected ones of eight bytes from an address on are those of a word.
+    /// Whether the selected ones of eight bytes from an address on are those of a word.
     pub fn matches(&self, address: u8, mask: u8, word: &[u8]) -> bool
         ensures matches { result ≡ matches self.now.memory address mask word.now }
     {
@@ -18,7 +18,7 @@ impl Tag {
         (0..8).all(|place| wanted.agrees_at(self, place))
     }
 
-    // Stores the selected ones of four bytes from an address on.
+    /// Stores the selected ones of four bytes from an address on.
     pub fn store(&mut self, address: u8, mask: u8, bytes: &[u8])
         ensures stored { self.new ≡ record self.old { memory = stored address mask bytes.now self.old.memory 4 } }
     {

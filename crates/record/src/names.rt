@@ -8,6 +8,7 @@ use std::fmt;
 use std::str::FromStr;
 
 impl State {
+    /// The state in capitals, as the chip's users know it.
     pub fn name(self) -> &'static str
         ensures name { result.now ≡ state_name self }
     {

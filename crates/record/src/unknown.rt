@@ -5,11 +5,12 @@ ghost use Rattle.record.specs.Names.{unknown_text};
 use std::error::Error;
 use std::fmt;
 
+/// What was read, and names nothing.
 #[derive(Clone, Copy, PartialEq, Eq, Debug)]
 pub enum Unknown {
-    // A text that names no state.
+    /// A text that names no state.
     State,
-    // A number that no write mark has.
+    /// A number that no write mark has.
     Mark,
 }
 

@@ -13,22 +13,23 @@ use frame::writer::Writer;
 use protocol::refusal::Refusal;
 use record::Tag;
 
-// How many bytes the longest reply has: 256 of memory and their check value.
+/// How many bytes the longest reply has: 256 of memory and their check value.
 pub const LONGEST_REPLY: usize = 258;
 
-// What a reply says, of a tag's memory or of how a command went.
+/// What a reply says, of a tag's memory or of how a command went.
 #[derive(Clone, Copy, PartialEq, Eq, Debug)]
 pub enum Reply {
-    // The serial number.
+    /// The serial number.
     Serial,
-    // The byte at an address and so many more behind it.
+    /// The byte at an address and so many more behind it.
     Memory { address: u8, more: u8 },
-    // One byte that tells how a command went.
+    /// One byte that tells how a command went.
     Status(u8),
 }
 
 impl Reply {
-    // Writes the reply of a tag, data and check value, at the front of a buffer, and tells its length.
+    /// Writes the reply of a tag, data and check value, at the front of a buffer, and tells its length.
+    /// 258 bytes are always enough; a buffer too short is refused by 5.
     pub fn write(self, tag: &Tag, buffer: &mut [u8]) -> Result<usize, Refusal>
         ensures answer { write_result result ≡ result_of (writing (sealed (data_of tag.now self)) (length buffer.old)) }
         ensures buffer { buffer.new ≡

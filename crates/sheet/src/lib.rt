@@ -20,7 +20,7 @@ use slice_vec::vec::SliceVec;
 use slot::ending::Report;
 use slot::listed::ListedSlot;
 
-// Writes the sheet at the front of a buffer, and tells its length.
+/// Writes the sheet at the front of a buffer, and tells its length. Its lines and columns are in docs/sweeps.md.
 #[tactic(auto, using(crate::proofs::Readings::lines_read_back))]
 pub fn write(
     slots: &[ListedSlot],

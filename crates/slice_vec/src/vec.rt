@@ -1,7 +1,7 @@
 // A list that is filled from the front of lent storage.
 ghost use Rattle.std.specs.Prelude.{◌≤◌, length};
 
-// The storage, and how many of its items are filled. The storage is the caller's, since this is for use without a heap.
+/// The storage, and how many of its items are filled. The storage is the caller's, since this is for use without a heap.
 #[derive(Drop)]
 pub struct SliceVec<'a, T> {
     pub(crate) storage: &'a mut [T],
@@ -9,6 +9,6 @@ pub struct SliceVec<'a, T> {
     ghost fits: { filled ≤ length storage.now },
 }
 
-// The list has no room for one item more.
+/// The list has no room for one item more.
 #[derive(Clone, Copy, PartialEq, Eq, Debug)]
 pub struct Full;

@@ -5,7 +5,7 @@ ghost use Rattle.slot.specs.Calls.{no_counts};
 
 use field::hearing::Hearing;
 
-// Slots by what was heard, and commands. No count passes the budget, which is a number of this size.
+/// Slots by what was heard, and commands. No count passes the budget, which is a number of this size.
 #[derive(Clone, Copy, PartialEq, Eq, Debug)]
 pub struct Counts {
     pub lone: u16,

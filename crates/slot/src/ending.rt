@@ -6,19 +6,19 @@ ghost use Rattle.slot.specs.Counts.{stop_number, end_number, stop_name};
 use crate::counts::Counts;
 use std::fmt;
 
-// What stops a sweep, by its number.
+/// What stops a sweep, by its number.
 #[derive(Clone, Copy, PartialEq, Eq, Debug)]
 pub enum Stop {
-    // A clash where 255 groups wait.
+    /// A clash where 255 groups wait.
     Deep = 7,
-    // The budget of commands is spent.
+    /// The budget of commands is spent.
     Spent = 8,
-    // A list is full.
+    /// A list is full.
     Full = 9,
 }
 
 impl Stop {
-    // The number by which the stop is known outside.
+    /// The number by which the stop is known outside.
     pub fn number(self) -> u8
         ensures { result ≡ stop_number self }
     {
@@ -38,13 +38,14 @@ impl fmt::Display for Stop {
     }
 }
 
-// A sweep that is stopped, and what it has counted.
+/// A sweep that is stopped, and what it has counted.
 #[derive(Clone, Copy, PartialEq, Eq, Debug)]
 pub struct Stopped {
     pub stop: Stop,
     pub counts: Counts,
 }
 
+/// How a sweep has ended: whole, or stopped. docs/sweeps.md has the numbers.
 #[derive(Clone, Copy, PartialEq, Eq, Debug)]
 pub enum End {
     Whole,
@@ -52,7 +53,7 @@ pub enum End {
 }
 
 impl End {
-    // The number by which the end is known outside: 0 for a whole sweep.
+    /// The number by which the end is known outside: 0 for a whole sweep.
     pub fn number(self) -> u8
         ensures { result ≡ end_number self }
     {
@@ -63,7 +64,7 @@ impl End {
     }
 }
 
-// What a sweep reports beside its lists.
+/// What a sweep reports beside its lists.
 #[derive(Clone, Copy, PartialEq, Eq, Debug)]
 pub struct Report {
     pub end: End,

@@ -17,37 +17,38 @@ pub(crate) struct Progress {
     pub(crate) counts: Counts,
 }
 
-// Nobody replied, or the one who did has been read. The slot can be left.
+/// Nobody replied, or the one who did has been read. The slot can be left.
 #[derive(Drop)]
 pub struct SilentSlot {
     pub(crate) progress: Progress,
 }
 
-// One tag replied, and waits to be read. The slot must be read or given up: it cannot be dropped.
+/// One tag replied, and waits to be read. The slot must be read or given up: it cannot be dropped.
 pub struct LoneSlot {
     pub(crate) progress: Progress,
     pub(crate) serial: Serial,
 }
 
-// Several tags replied, or one that was spoiled. The slot can be split.
+/// Several tags replied, or one that was spoiled. The slot can be split.
 #[derive(Drop)]
 pub struct ClashSlot {
     pub(crate) progress: Progress,
 }
 
+/// A slot that is open. Each kind has its own calls, and a wrong one does not compile.
 pub enum Slot {
     Silent(SilentSlot),
     Lone(LoneSlot),
     Clash(ClashSlot),
 }
 
-// What comes of leaving a silent slot: the next one, or the end of a whole sweep.
+/// What comes of leaving a silent slot: the next one, or the end of a whole sweep.
 pub enum Continuation {
     Next(Slot),
     Whole(Counts),
 }
 
-// Why a clash slot is not split: a refusal, with the slot handed back, or a stop that has spent it.
+/// Why a clash slot is not split: a refusal, with the slot handed back, or a stop that has spent it.
 #[derive(Drop)]
 pub enum Unsplit {
     Refused(Declined<ClashSlot>),
@@ -62,7 +63,7 @@ impl From<Stopped> for Unsplit {
     }
 }
 
-// What is known of a lone slot that is given up. The sweep has no end number.
+/// What is known of a lone slot that is given up. The sweep has no end number.
 #[derive(Clone, Copy)]
 pub struct GivenUp {
     pub serial: Serial,

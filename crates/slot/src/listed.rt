@@ -2,7 +2,7 @@
 use field::hearing::Hearing;
 use protocol::command::Command;
 
-// The command that opened the slot, what was heard, and how many groups then waited.
+/// The command that opened the slot, what was heard, and how many groups then waited.
 #[derive(Clone, Copy, PartialEq, Eq, Debug)]
 pub struct ListedSlot {
     pub command: Command,
@@ -10,7 +10,7 @@ pub struct ListedSlot {
     pub waiting: u8,
 }
 
-// An entry for storage that holds none yet.
+/// An entry for storage that holds none yet.
 pub const BLANK: ListedSlot = ListedSlot {
     command: Command::Select,
     hearing: Hearing::Silence,

@@ -23,17 +23,17 @@ use field::field::Field;
 use field::hearing::Hearing;
 use protocol::refusal::Refusal;
 
-// How many recorded rows of coins there can be.
+/// How many recorded rows of coins there can be.
 pub const MOST_ROWS: usize = 64;
 
-// Whether there are rows of coins to draw, and no more than there can be.
+/// Whether there are rows of coins to draw, and no more than there can be.
 pub fn is_recorded(coins: &[u64]) -> bool
     ensures { result ≡ is_recorded coins.now }
 {
     !coins.is_empty() && coins.len() <= MOST_ROWS
 }
 
-// Begins a sweep: empties the lists, and sends SELECT.
+/// Begins a sweep: empties the lists, and sends SELECT. The reader's rule is in docs/sweeps.md.
 pub fn open<F: Field>(field: &mut F, budget: u16, lists: &mut Lists<'_>) -> Result<Slot, Stopped>
     ensures rule { (coins : List ℕ) →
         Begins F.Field (setting coins budget lists.old) (position_opened result) field.old field.new lists.new }
@@ -55,7 +55,7 @@ pub fn open<F: Field>(field: &mut F, budget: u16, lists: &mut Lists<'_>) -> Resu
 }
 
 impl ClashSlot {
-    // Draws a row of coins and sends QUERY: each tag in turn waits for the next slots if its coin is 1.
+    /// Draws a row of coins and sends QUERY: each tag in turn waits for the next slots if its coin is 1.
     pub fn split<F: Field>(
         self,
         field: &mut F,
@@ -84,7 +84,7 @@ impl ClashSlot {
 }
 
 impl SilentSlot {
-    // Sends SCROLL for the next group that waits, or the closing REPEAT if none does.
+    /// Sends SCROLL for the next group that waits, or the closing REPEAT if none does.
     pub fn leave<F: Field>(self, field: &mut F, lists: &mut Lists<'_>) -> Result<Continuation, Stopped>
         ensures rule { (coins : List ℕ) →
             Continues F.Field coins (at_silent self) (position_after result) field.old field.new lists.old lists.new }
@@ -103,8 +103,8 @@ impl SilentSlot {
 }
 
 impl LoneSlot {
-    // Lists the serial number, and sends READ until a reply is heard as lone. The slot can then be left. A sweep
-    // that stops here has not heard one.
+    /// Lists the serial number, and sends READ until a reply is heard as lone. The slot can then be left. A sweep
+    /// that stops here has not heard one.
     pub fn read<F: Field>(self, field: &mut F, lists: &mut Lists<'_>) -> Result<SilentSlot, Stopped>
         ensures rule { (coins : List ℕ) →
             Continues F.Field coins (at_lone self) (position_read result) field.old field.new lists.old lists.new }
@@ -127,7 +127,7 @@ impl LoneSlot {
         progress.read(field, &serial)
     }
 
-    // Ends the sweep here. Nothing is sent or listed.
+    /// Ends the sweep here. Nothing is sent or listed.
     pub fn give_up(self) -> GivenUp
         ensures { result ≡ record { serial = serial_heard self; counts = counts_in (at_lone self) } }
     {

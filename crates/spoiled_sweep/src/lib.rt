@@ -16,7 +16,7 @@ use slot::ending::Report;
 use slot::lists::Lists;
 use sweep::sweep;
 
-// Sweeps a field through its spoiler. Where that spoils each lone reply and a tag is due, no sweep is whole.
+/// Sweeps a field through its spoiler. Where that spoils each lone reply and a tag is due, no sweep is whole.
 pub fn sweep_spoiled<F: Field>(
     spoiler: &mut Spoiler<F>,
     coins: &[u64],

@@ -17,7 +17,8 @@ use slot::lists::Lists;
 use slot::working::is_recorded;
 use working::work;
 
-// Sweeps a field: splits each clash and reads each lone tag, until the sweep is whole or stopped.
+/// Sweeps a field: splits each clash and reads each lone tag, until the sweep is whole or stopped.
+/// The rule, the stops and what is counted are in docs/sweeps.md.
 #[tactic(auto, using(crate::proofs::Empties::empty_sweeps))]
 pub fn sweep<F: Field>(
     field: &mut F,

@@ -26,7 +26,7 @@ use protocol::refusal::Refusal;
 use record::{State, Tag};
 use reply::Reply;
 
-// Steps a tag on the bytes of a frame.
+/// Steps a tag on the bytes of a frame.
 pub fn hear(tag: &mut Tag, bytes: &[u8], coin: bool) -> Option<Reply>
     ensures after { tag.new ≡ stepped (opening bytes.now) coin tag.old }
     ensures reply { sealed_reply (data_in tag.new result) ≡ replied (opening bytes.now) coin tag.old }
@@ -34,9 +34,9 @@ pub fn hear(tag: &mut Tag, bytes: &[u8], coin: bool) -> Option<Reply>
     step(tag, &open(bytes), coin)
 }
 
-// Steps a tag on what opening a frame gave, and tells what it replies. The coin is what the tag draws at a QUERY: with
-// 1 it lets the others go first. A loop over tags spends its time here, so that a call would be felt; and where the
-// loop is for one command, the others fall away.
+/// Steps a tag on what opening a frame gave, and tells what it replies. The coin is what the tag draws at a QUERY: with
+/// 1 it lets the others go first. A loop over tags spends its time here, so that a call would be felt; and where the
+/// loop is for one command, the others fall away. docs/tags.md has what each command does.
 #[inline(always)]
 pub fn step(tag: &mut Tag, opened: &Result<Frame<'_>, Refusal>, coin: bool) -> Option<Reply>
     ensures after { tag.new ≡ stepped (opening_of opened.now) coin tag.old }

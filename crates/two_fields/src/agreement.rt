@@ -4,7 +4,7 @@ ghost use Rattle.two_fields.specs.Places.{alike_at};
 
 use field::lending::Lending;
 
-// Place by place, and in every part.
+/// Place by place, and in every part.
 pub fn agree<L: Lending, R: Lending>(left: &L, right: &R) -> bool
     ensures { IsTrue result ↔ (L.tags left.now ≡ R.tags right.now) }
 {

@@ -10,8 +10,8 @@ use history::workspace::Workspace;
 use history::running;
 use protocol::refusal::Refusal;
 
-// Runs one list of calls on two fields, of which each has its own workspaces. A call that is refused belongs to the run,
-// which goes on. With fewer workspaces than calls on either side nothing is done; those beyond the calls stay as they are.
+/// Runs one list of calls on two fields, of which each has its own workspaces. A call that is refused belongs to the run,
+/// which goes on. With fewer workspaces than calls on either side nothing is done; those beyond the calls stay as they are.
 #[tactic(auto, using(crate::proofs::Agreements::law))]
 pub fn run<L: Field, R: Field>(
     left: &mut L,

@@ -12,8 +12,8 @@ use std::process::ExitCode;
 // What a program ends with that was started wrongly.
 const REFUSED: u8 = 2;
 
-// Answers the command line of a program that takes no words, and tells what to end with. With no word there is work to
-// do instead.
+/// Answers the command line of a program that takes no words, and tells what to end with. With no word there is work to
+/// do instead.
 pub fn answer<R: Env + Alloc + Print + Eprint>(rt: &R, usage: &str) -> io::Result<Option<ExitCode>>
     ensures { IfOk result
         (λ answered. IfSome answered (λ code. (exit_status code ≡ 0) ⊎ (exit_status code ≡ 2))) }
@@ -36,7 +36,7 @@ fn answer_word(rt: &(impl Print + Eprint), word: &str, usage: &str) -> io::Resul
     refuse(rt, "unknown word", word, usage)
 }
 
-// Prints the usage.
+/// Prints the usage.
 pub fn help(rt: &impl Print, usage: &str) -> io::Result<ExitCode>
     ensures { IfOk result (λ code. exit_status code ≡ 0) }
 {
@@ -44,7 +44,7 @@ pub fn help(rt: &impl Print, usage: &str) -> io::Result<ExitCode>
     Ok(ExitCode::SUCCESS)
 }
 
-// Says what is wrong with a word, and the usage.
+/// Says what is wrong with a word, and the usage.
 pub fn refuse(rt: &impl Eprint, problem: &str, word: &str, usage: &str) -> io::Result<ExitCode>
     ensures { IfOk result (λ code. exit_status code ≡ 2) }
 {
