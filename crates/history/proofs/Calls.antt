@@ -68,15 +68,15 @@ module _ {F : Type 0} (kind : Kind F) where
   pub ran_from : (calls : List Call) (workspaces : List Workspace) (i : ℕ) (c : Call) (d e : Workspace) (rest : List Workspace) (a b end : F) → i < length calls
       → i < length workspaces → AfterCall kind (step_of (get_or calls i c) (get_or workspaces i d)) (get_or workspaces i d) e a b
       → Ran kind (drop (i + 1) calls) (drop (i + 1) (set workspaces i e)) rest b end → Ran kind (drop i calls) (drop i workspaces) (e ∷ rest) a end
-  ran_from calls workspaces i c d e rest a b end in_calls in_desks one others =
+  ran_from calls workspaces i c d e rest a b end in_calls in_workspaces one others =
       let later : drop (i + 1) (set workspaces i e) ≡ drop (i + 1) workspaces = drop-set-lt (i + 1) workspaces i e (omega arith) in
       subst (λ (cs : List Call). Ran kind cs (drop i workspaces) (e ∷ rest) a end) (sym (drop_more calls i c in_calls))
-      (subst (λ (ds : List Workspace). Ran kind (get_or calls i c ∷ drop (i + 1) calls) ds (e ∷ rest) a end) (sym (drop_more workspaces i d in_desks))
+      (subst (λ (ds : List Workspace). Ran kind (get_or calls i c ∷ drop (i + 1) calls) ds (e ∷ rest) a end) (sym (drop_more workspaces i d in_workspaces))
       (ran_more (get_or calls i c) (drop (i + 1) calls) (get_or workspaces i d) e (drop (i + 1) workspaces) rest a b end one
       (subst (λ (ds : List Workspace). Ran kind (drop (i + 1) calls) ds rest b end) later others)))
 
 -- The workspaces that are done, and the others.
-pub desks_on : (workspaces : List Workspace) (i : ℕ) (e : Workspace) (rest : List Workspace) → i < length workspaces
+pub workspaces_on : (workspaces : List Workspace) (i : ℕ) (e : Workspace) (rest : List Workspace) → i < length workspaces
     → take (i + 1) (set workspaces i e) ++ rest ≡ take i workspaces ++ (e ∷ rest)
-desks_on workspaces i e rest h =
+workspaces_on workspaces i e rest h =
     ap (λ (xs : List Workspace). xs ++ rest) (take_more_set workspaces i e h) ∙ append_assoc (take i workspaces) (e ∷ []) rest

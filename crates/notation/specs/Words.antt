@@ -14,7 +14,7 @@ use Rattle.record.specs.Names.{state_name}
 use Rattle.notation.specs.Hexadecimal.{SpellsArray, SpellsByte}
 use Rattle.notation.specs.Errors.{Reads}
 use Rattle.notation.specs.declared.error.NotationError.{NotationError}
-use Rattle.notation.specs.declared.error.NotationError.TheVariants as misspelt
+use Rattle.notation.specs.declared.error.NotationError.TheVariants as notation_error
 
 abbrev pub SpellsBit : List ℕ → Bool → Type 0
 SpellsBit text false = codes "0" ≡ text
@@ -44,7 +44,7 @@ SpellsLocks text locks = (bytes : List ℕ) × SpellsArray 7 text bytes × (lock
 abbrev pub ReadsNext : {A : Type 0} → (List ℕ → A → Type 0) → NotationError → SplitWhitespace → SplitWhitespace → Result A NotationError → Type 0
 ReadsNext Spells error before after r =
     (next : Option (Bor (List ℕ))) × split_whitespace_steps before next after
-    × MatchOption next (r ≡ Err misspelt.Missing) (λ text. Reads Spells error text.now r)
+    × MatchOption next (r ≡ Err notation_error.Missing) (λ text. Reads Spells error text.now r)
 
 -- The next five words spell the state, the ID flag, the counter, the write mark and the permission of a record.
 pub record SpellsParts (before after : SplitWhitespace) (tag : Tag) : Type 0 where
@@ -52,11 +52,11 @@ pub record SpellsParts (before after : SplitWhitespace) (tag : Tag) : Type 0 whe
   pub behind_flag : SplitWhitespace
   pub behind_counter : SplitWhitespace
   pub behind_mark : SplitWhitespace
-  pub state : ReadsNext SpellsState misspelt.State before behind_state (Ok tag.state)
-  pub flag : ReadsNext SpellsBit misspelt.Bit behind_state behind_flag (Ok tag.identified)
-  pub counter : ReadsNext SpellsByte misspelt.Bytes behind_flag behind_counter (Ok tag.counter)
-  pub mark : ReadsNext SpellsMark misspelt.Mark behind_counter behind_mark (Ok tag.mark)
-  pub permission : ReadsNext SpellsPermission misspelt.Bytes behind_mark after (Ok tag.permission)
+  pub state : ReadsNext SpellsState notation_error.State before behind_state (Ok tag.state)
+  pub flag : ReadsNext SpellsBit notation_error.Bit behind_state behind_flag (Ok tag.identified)
+  pub counter : ReadsNext SpellsByte notation_error.Bytes behind_flag behind_counter (Ok tag.counter)
+  pub mark : ReadsNext SpellsMark notation_error.Mark behind_counter behind_mark (Ok tag.mark)
+  pub permission : ReadsNext SpellsPermission notation_error.Bytes behind_mark after (Ok tag.permission)
 
 -- The next word spells something of a kind, and behind it something holds.
 abbrev pub ReadsThen : {A : Type 0} → (List ℕ → A → Type 0) → NotationError → SplitWhitespace → (SplitWhitespace → Type 0) → Type 0
@@ -65,8 +65,8 @@ ReadsThen {A} Spells error before On = (value : A) × (after : SplitWhitespace) 
 -- The first of the five words that is missing or spells nothing of its kind makes an error.
 unfoldable pub IsNoParts : SplitWhitespace → SplitWhitespace → NotationError → Type 0
 IsNoParts before after e =
-    ReadsNext SpellsState misspelt.State before after (Err e) ⊎ ReadsThen SpellsState misspelt.State before (λ b.
-    ReadsNext SpellsBit misspelt.Bit b after (Err e) ⊎ ReadsThen SpellsBit misspelt.Bit b (λ c.
-    ReadsNext SpellsByte misspelt.Bytes c after (Err e) ⊎ ReadsThen SpellsByte misspelt.Bytes c (λ d.
-    ReadsNext SpellsMark misspelt.Mark d after (Err e) ⊎ ReadsThen SpellsMark misspelt.Mark d (λ p.
-    ReadsNext SpellsPermission misspelt.Bytes p after (Err e)))))
+    ReadsNext SpellsState notation_error.State before after (Err e) ⊎ ReadsThen SpellsState notation_error.State before (λ b.
+    ReadsNext SpellsBit notation_error.Bit b after (Err e) ⊎ ReadsThen SpellsBit notation_error.Bit b (λ c.
+    ReadsNext SpellsByte notation_error.Bytes c after (Err e) ⊎ ReadsThen SpellsByte notation_error.Bytes c (λ d.
+    ReadsNext SpellsMark notation_error.Mark d after (Err e) ⊎ ReadsThen SpellsMark notation_error.Mark d (λ p.
+    ReadsNext SpellsPermission notation_error.Bytes p after (Err e)))))

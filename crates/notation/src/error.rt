@@ -32,7 +32,7 @@ pub enum NotationError {
 }
 
 impl fmt::Display for NotationError {
-    ghost output = { λ misspelt. Some (error_text misspelt) };
+    ghost output = { λ notation_error. Some (error_text notation_error) };
 
     fn fmt<W: fmt::Write>(&self, f: &mut fmt::Formatter<W>) -> fmt::Result
         ensures writes { WritesOnOk W.Write.write_str_gives f.old result (error_text self.now) f.new }
@@ -53,10 +53,10 @@ impl fmt::Display for NotationError {
 impl Error for NotationError {}
 
 impl From<FromHexError> for NotationError {
-    ghost from_gives = { λ error misspelt. misspelt ≡ of_hex error };
+    ghost from_gives = { λ error notation_error. notation_error ≡ of_hex error };
 
     fn from(error: FromHexError) -> NotationError
-        ensures misspelt { result ≡ of_hex error }
+        ensures notation_error { result ≡ of_hex error }
     {
         match error {
             FromHexError::OutOfMemory => NotationError::Memory,
@@ -66,7 +66,7 @@ impl From<FromHexError> for NotationError {
 }
 
 impl From<Refusal> for NotationError {
-    ghost from_gives = { λ refusal misspelt. misspelt ≡ Refused refusal };
+    ghost from_gives = { λ refusal notation_error. notation_error ≡ Refused refusal };
 
     fn from(refusal: Refusal) -> NotationError {
         NotationError::Refused(refusal)
@@ -74,7 +74,7 @@ impl From<Refusal> for NotationError {
 }
 
 impl From<AllocError> for NotationError {
-    ghost from_gives = { λ _ misspelt. misspelt ≡ Memory };
+    ghost from_gives = { λ _ notation_error. notation_error ≡ Memory };
 
     fn from(_error: AllocError) -> NotationError {
         NotationError::Memory

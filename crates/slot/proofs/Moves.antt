@@ -33,10 +33,10 @@ module _ (set : Setting) where
   heard_append [] ks p a b = b
   heard_append (h ∷ hs) ks p a b = (a.0, heard_append hs ks (advanced set h p) a.1 b)
 
-  played_append : (hs ks : List Hearing) (p : SweepState) → run_by set (hs ++ ks) p ≡ run_by set ks (run_by set hs p)
+  run_append : (hs ks : List Hearing) (p : SweepState) → run_by set (hs ++ ks) p ≡ run_by set ks (run_by set hs p)
   unfolding run_by
-  played_append [] ks p = refl
-  played_append (h ∷ hs) ks p = played_append hs ks (advanced set h p)
+  run_append [] ks p = refl
+  run_append (h ∷ hs) ks p = run_append hs ks (advanced set h p)
 
   pub replayed_add : (m n : ℕ) (p : SweepState) → replayed set (m + n) p ≡ replayed set n (replayed set m p)
   unfolding replayed
@@ -45,14 +45,14 @@ module _ (set : Setting) where
       ap (λ (k : ℕ). replayed set k p) (let z : suc m + n ≡ suc (m + n) = omega arith in z) ∙ replayed_add m n (advanced set (next_plain_hearing set p) p)
 
 -- No action changes whether a field hears every lone reply as lone.
-deed_faithful : {F : Type 0} (kind : Kind F) (d : Action) (h : Hearing) (before after : F) → AfterAction kind d h before after
+action_faithful : {F : Type 0} (kind : Kind F) (d : Action) (h : Hearing) (before after : F) → AfterAction kind d h before after
     → kind.faithful after ≡ kind.faithful before
-deed_faithful kind (stops n) h before after a = ap kind.faithful a
-deed_faithful kind (opens c frame row g next) h before after a = a.as_faithful
-deed_faithful kind (lists serial) h before after a = ap kind.faithful a
-deed_faithful kind (reads serial) h before after a = a.as_faithful
-deed_faithful kind closes h before after a = a.as_faithful
-deed_faithful kind rests h before after a = ap kind.faithful a
+action_faithful kind (stops n) h before after a = ap kind.faithful a
+action_faithful kind (opens c frame row g next) h before after a = a.as_faithful
+action_faithful kind (lists serial) h before after a = ap kind.faithful a
+action_faithful kind (reads serial) h before after a = a.as_faithful
+action_faithful kind closes h before after a = a.as_faithful
+action_faithful kind rests h before after a = ap kind.faithful a
 
 module _ {F : Type 0} (kind : Kind F) (set : Setting) where
   goes_append : (hs ks : List Hearing) (p : SweepState) (a b c : F) → FieldFollows kind set hs p a b → FieldFollows kind set ks (run_by set hs p) b c
@@ -65,7 +65,7 @@ module _ {F : Type 0} (kind : Kind F) (set : Setting) where
   unfolding FieldFollows
   goes_faithful [] p a b goes = ap kind.faithful goes
   goes_faithful (h ∷ hs) p a b goes =
-      goes_faithful hs (advanced set h p) goes.0 b goes.2 ∙ deed_faithful kind (next_action set p) h a goes.0 goes.1
+      goes_faithful hs (advanced set h p) goes.0 b goes.2 ∙ action_faithful kind (next_action set p) h a goes.0 goes.1
 
   pub reaches_self : (a : F) (p : SweepState) → Reaches kind set a a p p
   unfolding MayHearAll run_by replayed FieldFollows
@@ -76,7 +76,7 @@ module _ {F : Type 0} (kind : Kind F) (set : Setting) where
       record {
         hearings = first.hearings ++ rest.hearings;
         heard = heard_append set first.hearings rest.hearings p first.heard (subst (MayHearAll set rest.hearings) first.there rest.heard);
-        there = rest.there ∙ ap (run_by set rest.hearings) first.there ∙ sym (played_append set first.hearings rest.hearings p);
+        there = rest.there ∙ ap (run_by set rest.hearings) first.there ∙ sym (run_append set first.hearings rest.hearings p);
         plain = λ e. rest.plain (goes_faithful first.hearings p a b first.field ∙ e) ∙ ap (replayed set (length rest.hearings)) (first.plain e)
             ∙ sym (replayed_add set (length first.hearings) (length rest.hearings) p)
             ∙ ap (λ (n : ℕ). replayed set n p) (sym (length-append first.hearings rest.hearings));
@@ -101,9 +101,9 @@ module _ {F : Type 0} (kind : Kind F) (set : Setting) where
   pub reaches_sent : (p : SweepState) (d : Action) (frame : List ℕ) (row : ℕ) (h : Hearing) (a b : F) → next_action set p ≡ d → p.tags ≡ kind.tags a
       → air_of d p.tags ≡ on_air (opening frame) row p.tags → (AfterSend kind frame row h a b → AfterAction kind d h a b)
       → AfterSend kind frame row h a b → Reaches kind set a b p (after_action d h p)
-  reaches_sent p d frame row h a b e tags air deed sent =
+  reaches_sent p d frame row h a b e tags air action sent =
       let same : air_of d p.tags ≡ on_air (opening frame) row (kind.tags a) = air ∙ ap (on_air (opening frame) row) tags in
-      reaches_by p d h a b e (subst (λ (x : Air). MayHear x h) (sym same) sent.may_be) (λ f. sent.plain f ∙ ap plain_hearing (sym same)) (deed sent)
+      reaches_by p d h a b e (subst (λ (x : Air). MayHear x h) (sym same) sent.may_be) (λ f. sent.plain f ∙ ap plain_hearing (sym same)) (action sent)
 
   -- A stop, where nothing is sent.
   pub reaches_stop : (p : SweepState) (n : ℕ) (a b : F) → next_action set p ≡ stops n → b ≡ a → Reaches kind set a b p (after_action (stops n) Silence p)
@@ -126,15 +126,15 @@ either false true e = inr (refl, refl)
 either false false e = absurd (true≢false (sym e))
 
 -- What comes after silence, by whether groups wait.
-pub silent_deed : (set : Setting) (p : SweepState) (b : Bool) → p.phase ≡ in_silence → eqb p.waiting 0 ≡ b
+pub silent_action : (set : Setting) (p : SweepState) (b : Bool) → p.phase ≡ in_silence → eqb p.waiting 0 ≡ b
     → next_action set p ≡ cond b (budget_checked set p closes) (room_checked set p (opens Scroll scroll 0 (p.waiting - 1) p.next))
-silent_deed set p b e w =
+silent_action set p b e w =
     ap (action_in set p) e
     ∙ ap (λ (x : Bool). cond x (budget_checked set p closes) (room_checked set p (opens Scroll scroll 0 (p.waiting - 1) p.next))) w
 
 -- A command, by whether the budget is spent.
-pub budget_deed : (set : Setting) (p : SweepState) (d : Action) (b : Bool) → nat_le set.budget p.commands ≡ b → budget_checked set p d ≡ cond b (stops 8) d
-budget_deed set p d b e = ap (λ (x : Bool). cond x (stops 8) d) e
+pub budget_action : (set : Setting) (p : SweepState) (d : Action) (b : Bool) → nat_le set.budget p.commands ≡ b → budget_checked set p d ≡ cond b (stops 8) d
+budget_action set p d b e = ap (λ (x : Bool). cond x (stops 8) d) e
 
 -- The stand once one more command is sent.
 abbrev pub with_one : Progress → Progress
@@ -154,10 +154,10 @@ module _ {F : Type 0} (kind : Kind F) where
   -- What opening a slot comes to, whatever comes of it.
   module _ (set : Setting) (p : SweepState) (command : Command) (frame : List ℕ) (row : ℕ) (from : Progress) (before after : Lists) (a b : F) where
     -- The action, by the two tests before it.
-    deed_by : (d : Action) (x y : Bool) → set.budget ≡ from.budget → p.commands ≡ from.counts.commands → set.slot_room ≡ capacity_of before.slots
+    action_by : (d : Action) (x y : Bool) → set.budget ≡ from.budget → p.commands ≡ from.counts.commands → set.slot_room ≡ capacity_of before.slots
         → p.slots ≡ items_of before.slots → nat_le from.budget from.counts.commands ≡ x → is_full before.slots ≡ y
         → room_checked set p d ≡ cond x (stops 8) (cond y (stops 9) d)
-    deed_by d x y eb ec er es ea ef =
+    action_by d x y eb ec er es ea ef =
         ap₂ (λ (v w : Bool). cond v (stops 8) (cond w (stops 9) d))
         (ap₂ nat_le eb ec ∙ ea)
         (ap₂ (λ (n : ℕ) (rows : List ListedSlot). nat_le n (length rows)) er es ∙ ef)
@@ -184,17 +184,17 @@ module _ {F : Type 0} (kind : Kind F) where
       pub slot_opened : (r : Result Slot Stopped) → MayOpen kind command frame row from before after a b r → ReachesPosition kind set p (position_opened r) a b after
       slot_opened (Ok s) o =
           let tests = neither (nat_le from.budget from.counts.commands) (is_full before.slots) o.opens in
-          opened_lem s (next ∙ deed_by (opens command frame row from.waiting from.next) false false eb ec er es tests.0 tests.1) o.opened
+          opened_lem s (next ∙ action_by (opens command frame row from.waiting from.next) false false eb ec er es tests.0 tests.1) o.opened
       slot_opened (Err s) o =
           let commands = ec ∙ ap (λ (c : Counts). c.commands) (sym o.counts) in
           let slots = es ∙ ap (λ (l : Lists). items_of l.slots) (sym o.same.1) in
           let serials = el ∙ ap (λ (l : Lists). items_of l.serials) (sym o.same.1) in
           elim (either (nat_le from.budget from.counts.commands) (is_full before.slots) o.opens) [
             | inl spent ↦ stopped set p after a b 8 s
-                (next ∙ deed_by (opens command frame row from.waiting from.next) true (is_full before.slots) eb ec er es spent refl) o.same.0
+                (next ∙ action_by (opens command frame row from.waiting from.next) true (is_full before.slots) eb ec er es spent refl) o.same.0
                 (o.stop ∙ ap (λ (x : Bool). cond x 8 9) spent) commands slots serials et
             | inr full ↦ stopped set p after a b 9 s
-                (next ∙ deed_by (opens command frame row from.waiting from.next) false true eb ec er es full.0 full.1) o.same.0
+                (next ∙ action_by (opens command frame row from.waiting from.next) false true eb ec er es full.0 full.1) o.same.0
                 (o.stop ∙ ap (λ (x : Bool). cond x 8 9) full.0) commands slots serials et
           ]
 
@@ -204,7 +204,7 @@ module _ {F : Type 0} (kind : Kind F) where
       → ReachesPosition kind set p (at_slot (read_by h serial) (with_one from)) a b held
   read_once set p serial from held h a b s less sent = (
     after_action (reads serial) h p,
-    reaches_sent kind set p (reads serial) (read serial) 0 h a b (ap (action_in set p) s.phase ∙ budget_deed set p (reads serial) false less) s.tags refl (λ x. x) sent,
+    reaches_sent kind set p (reads serial) (read serial) 0 h a b (ap (action_in set p) s.phase ∙ budget_action set p (reads serial) false less) s.tags refl (λ x. x) sent,
     record {
       phase = refl;
       waiting = s.waiting;

@@ -70,10 +70,10 @@ pub data Action : Type 0 where
 
 -- The budget is looked at before every command, and the room for slots then before one that opens a slot.
 abbrev pub budget_checked : Setting → SweepState → Action → Action
-budget_checked set p deed = if nat_le set.budget p.commands then stops 8 else deed
+budget_checked set p action = if nat_le set.budget p.commands then stops 8 else action
 
 abbrev pub room_checked : Setting → SweepState → Action → Action
-room_checked set p deed = budget_checked set p (if nat_le set.slot_room (length p.slots) then stops 9 else deed)
+room_checked set p action = budget_checked set p (if nat_le set.slot_room (length p.slots) then stops 9 else action)
 
 -- The row of coins at a place. The rows are drawn in turn, and behind the last comes the first.
 abbrev pub coins_at : List ℕ → ℕ → ℕ

@@ -54,20 +54,20 @@ module _ {F : Type 0} (below : Kind F) (kind : Kind (Spoiler F))
       let at_one = subst (λ (k : ℕ). (n : ℕ) → 0 < k → s.heard ≡ n % k → h ≡ spoiled k (n + lone_count a.heard_below) a.heard_below) one a.hears in
       never a.heard_below h (at_one 0 (omega arith) none)
 
-  unheard_deed : (d : Action) (tags : List Tag) (h : Hearing) (s t : Spoiler F) → period_of s ≡ 1 → MayHear (air_of d tags) h → AfterAction kind d h s t → h ≢ Lone
-  unheard_deed (stops n) tags h s t one m a = unheard_silence h m
-  unheard_deed (opens c frame row g next) tags h s t one m a = unheard s t frame row h one (spoils s t frame row h a.promise)
-  unheard_deed (lists serial) tags h s t one m a = unheard_silence h m
-  unheard_deed (reads serial) tags h s t one m a = unheard s t _ _ h one (spoils s t _ _ h a.promise)
-  unheard_deed closes tags h s t one m a = unheard s t _ _ h one (spoils s t _ _ h a.promise)
-  unheard_deed rests tags h s t one m a = unheard_silence h m
+  unheard_action : (d : Action) (tags : List Tag) (h : Hearing) (s t : Spoiler F) → period_of s ≡ 1 → MayHear (air_of d tags) h → AfterAction kind d h s t → h ≢ Lone
+  unheard_action (stops n) tags h s t one m a = unheard_silence h m
+  unheard_action (opens c frame row g next) tags h s t one m a = unheard s t frame row h one (spoils s t frame row h a.promise)
+  unheard_action (lists serial) tags h s t one m a = unheard_silence h m
+  unheard_action (reads serial) tags h s t one m a = unheard s t _ _ h one (spoils s t _ _ h a.promise)
+  unheard_action closes tags h s t one m a = unheard s t _ _ h one (spoils s t _ _ h a.promise)
+  unheard_action rests tags h s t one m a = unheard_silence h m
 
   unheard_along : (set : Setting) (hs : List Hearing) (p : SweepState) (s t : Spoiler F) → period_of s ≡ 1 → MayHearAll set hs p → FieldFollows kind set hs p s t
       → AllByRecursion (λ h. h ≢ Lone) hs
   unfolding MayHearAll MayHearNext FieldFollows
   unheard_along set [] p s t one heard e = tt
   unheard_along set (h ∷ hs) p s t one heard (u, a, rest) = (
-    unheard_deed (next_action set p) p.tags h s u one heard.0 a,
+    unheard_action (next_action set p) p.tags h s u one heard.0 a,
     unheard_along set hs (advanced set h p) u t (period_after (next_action set p) h s u a ∙ one) heard.1 rest,
   )
 

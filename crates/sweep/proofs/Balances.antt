@@ -9,7 +9,7 @@ use Rattle.field.specs.Airs.{Air, hearing_number}
 use Rattle.slot.specs.declared.listed.ListedSlot.{ListedSlot}
 use Rattle.slot.specs.Rules.{Setting, Phase, fresh, in_silence, in_lone, in_clash, in_reading, SweepState, Action, beginning, ended, opens, reads, opened_by, read_by, after_action, advanced, run_by}
 use Rattle.sweep.specs.Tallies.{heard_as, Balanced, EndsBalanced}
-use Rattle.sweep.proofs.Deeds.{by_deed, holds_played}
+use Rattle.sweep.proofs.Actions.{by_action, holds_run}
 
 -- One slot more.
 pub one_more : (x : Hearing) (slots : List ListedSlot) (row : ListedSlot)
@@ -61,12 +61,12 @@ even_read Lone serial p b = record { slots = b.slots; commands = omega (arith, b
 even_read Clash serial p b = record { slots = b.slots; commands = omega (arith, b.commands) }
 
 abbrev StaysEven : Hearing → SweepState → Phase → Action → Type 0
-StaysEven h p phase deed = Even phase p → Even p.phase p → Even (after_action deed h p).phase (after_action deed h p)
+StaysEven h p phase action = Even phase p → Even p.phase p → Even (after_action action h p).phase (after_action action h p)
 
 even_on : (set : Setting) (h : Hearing) (p : SweepState) → Even p.phase p → Even (advanced set h p).phase (advanced set h p)
 unfolding advanced
 even_on set h p even =
-    by_deed set p (StaysEven h p)
+    by_action set p (StaysEven h p)
     (record {
       spent = λ phase over e now. tt;
       full = λ phase over e now. tt;
@@ -82,6 +82,6 @@ even_on set h p even =
 
 pub ends_balanced : EndsBalanced
 ends_balanced set hs tags e =
-    let p : Play = run_by set hs (beginning tags) in
+    let p : SweepState = run_by set hs (beginning tags) in
     let first : Balance 0 0 (beginning tags) = record { slots = refl; commands = refl } in
-    subst (λ (phase : Phase). Even phase p) e (holds_played set (λ q. Even q.phase q) (even_on set) hs (beginning tags) (refl, first))
+    subst (λ (phase : Phase). Even phase p) e (holds_run set (λ q. Even q.phase q) (even_on set) hs (beginning tags) (refl, first))

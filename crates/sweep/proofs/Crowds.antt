@@ -15,7 +15,7 @@ use Rattle.field.specs.Airs.{Air, silent, one, many, mixed, air_of_one}
 use Rattle.field.specs.Sends.{first_coin, stepped_all, on_air}
 use Rattle.slot.specs.Commands.{repeat}
 use Rattle.sweep.specs.Effects.{times, tag_after_sweep}
-use Rattle.sweep.proofs.Tags.{is_active, has_turn, is_left_by, outcome, Fit, Readable, Takes, Opens, not_active, readable, serial_of_outcome, serial_of_fate, again_each}
+use Rattle.sweep.proofs.Tags.{is_active, has_turn, is_left_by, outcome, Fit, Readable, Takes, Opens, not_active, readable, serial_of_outcome, serial_after_sweep, again_each}
 
 -- How many of the tags that some test picks have a serial number.
 abbrev pub tally : (Tag → Bool) → List ℕ → List Tag → ℕ
@@ -226,12 +226,12 @@ serials_of_outcomes : (tags : List Tag) → map serial_of (map outcome tags) ≡
 serials_of_outcomes [] = refl
 serials_of_outcomes (t ∷ ts) = ap₂ (λ (s : List ℕ) (rest : List (List ℕ)). s ∷ rest) (serial_of_outcome t) (serials_of_outcomes ts)
 
-serials_of_fates : (tags : List Tag) → map serial_of (map tag_after_sweep tags) ≡ map serial_of tags
-serials_of_fates [] = refl
-serials_of_fates (t ∷ ts) = ap₂ (λ (s : List ℕ) (rest : List (List ℕ)). s ∷ rest) (serial_of_fate t) (serials_of_fates ts)
+serials_after_sweep : (tags : List Tag) → map serial_of (map tag_after_sweep tags) ≡ map serial_of tags
+serials_after_sweep [] = refl
+serials_after_sweep (t ∷ ts) = ap₂ (λ (s : List ℕ) (rest : List (List ℕ)). s ∷ rest) (serial_after_sweep t) (serials_after_sweep ts)
 
 pub same_serials : (tags before : List Tag) → map outcome tags ≡ map tag_after_sweep before → map serial_of tags ≡ map serial_of before
-same_serials tags before e = sym (serials_of_outcomes tags) ∙ ap (map serial_of) e ∙ serials_of_fates before
+same_serials tags before e = sym (serials_of_outcomes tags) ∙ ap (map serial_of) e ∙ serials_after_sweep before
 
 abbrev pub AreSized : List (List ℕ) → Type 0
 AreSized serials = AllByRecursion (λ s. length s ≡ 8) serials

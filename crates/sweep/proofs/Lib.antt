@@ -1,13 +1,13 @@
+pub mod Actions
 pub mod Balances
 pub mod Crowds
-pub mod Deeds
 pub mod Empties
 pub mod Ends
 pub mod Frames
 pub mod Misses
 pub mod Outcomes
-pub mod Plays
 pub mod Readings
 pub mod Rooms
+pub mod Runs
 pub mod Tags
 pub mod Walks

@@ -10,8 +10,8 @@ use Rattle.field.specs.Sends.{Sized}
 use Rattle.slot.specs.Rules.{Setting, Phase, fresh, in_silence, in_lone, in_clash, in_reading, ended, SweepState, beginning, Action, opened_by, after_action, advanced, run_by, MayHearAll}
 use Rattle.sweep.specs.Effects.{is_due, times}
 use Rattle.sweep.proofs.Crowds.{none_picked}
-use Rattle.sweep.proofs.Deeds.{by_deed}
-use Rattle.sweep.proofs.Plays.{Clears, over}
+use Rattle.sweep.proofs.Actions.{by_action}
+use Rattle.sweep.proofs.Runs.{Clears, over}
 
 abbrev Unlisted : Phase → SweepState → Type 0
 Unlisted fresh p = p.serials ≡ []
@@ -35,12 +35,12 @@ unlisted_open Lone air p other e = absurd (other refl)
 unlisted_open Clash air p other e = e
 
 abbrev StaysUnlisted : Hearing → SweepState → Phase → Action → Type 0
-StaysUnlisted h p phase deed = Unlisted phase p → Unlisted p.phase p → Unlisted (after_action deed h p).phase (after_action deed h p)
+StaysUnlisted h p phase action = Unlisted phase p → Unlisted p.phase p → Unlisted (after_action action h p).phase (after_action action h p)
 
 unlisted_on : (set : Setting) (h : Hearing) (p : SweepState) → h ≢ Lone → Unlisted p.phase p → Unlisted (advanced set h p).phase (advanced set h p)
 unfolding advanced
 unlisted_on set h p other unlisted =
-    by_deed set p (StaysUnlisted h p)
+    by_action set p (StaysUnlisted h p)
     (record {
       spent = λ phase over e now. no_serials phase p e;
       full = λ phase over e now. no_serials phase p e;
@@ -67,7 +67,7 @@ all_clear tags (h ∷ hs) others = ((λ lone. absurd (others.0 lone)), all_clear
 pub none_due : (set : Setting) (hs : List Hearing) (tags : List Tag) → Sized tags → MayHearAll set hs (beginning tags) → AllByRecursion (λ h. h ≢ Lone) hs
     → (run_by set hs (beginning tags)).phase ≡ ended 0 → All (λ t. is_due t ≡ false) tags
 none_due set hs tags sized heard others e =
-    let p : Play = run_by set hs (beginning tags) in
+    let p : SweepState = run_by set hs (beginning tags) in
     let o = over set hs tags sized (all_clear tags hs others) heard e in
     let none : p.serials ≡ [] = no_serials p.phase p (unlisted set hs (beginning tags) others refl) in
     All-from_recursion (λ t. is_due t ≡ false) tags (none_picked is_due tags (λ serial. sym (o.serials serial) ∙ ap (times serial) none))

@@ -20,7 +20,7 @@ use Rattle.sweep.specs.Tallies.{heard_as, enough}
 use Rattle.sweep.specs.Whole.{Outcome, outcome_of, Reported, Swept, Complete, Lawful}
 use Rattle.sweep.proofs.Balances.{ends_balanced}
 use Rattle.sweep.proofs.Ends.{settles}
-use Rattle.sweep.proofs.Plays.{fates}
+use Rattle.sweep.proofs.Runs.{sweep_effects}
 use Rattle.sweep.proofs.Readings.{reads_once}
 use Rattle.sweep.proofs.Rooms.{keeps}
 use Rattle.sweep.proofs.Walks.{Come}
@@ -43,10 +43,10 @@ all_heard (row ∷ rows) =
     omega (arith, counted_first Lone row rows, counted_first Silence row rows, counted_first Clash row rows, ways row.hearing, all_heard rows)
 
 -- A replay is a run with hearings that are settled.
-replay_played : (set : Setting) (n : ℕ) (p : SweepState) → (hs : List Hearing) × (replayed set n p ≡ run_by set hs p)
+replay_is_run : (set : Setting) (n : ℕ) (p : SweepState) → (hs : List Hearing) × (replayed set n p ≡ run_by set hs p)
 unfolding replayed run_by
-replay_played set zero p = ([], refl)
-replay_played set (suc n) p = let rest = replay_played set n (advanced set (next_plain_hearing set p) p) in (next_plain_hearing set p ∷ rest.0, rest.1)
+replay_is_run set zero p = ([], refl)
+replay_is_run set (suc n) p = let rest = replay_is_run set n (advanced set (next_plain_hearing set p) p) in (next_plain_hearing set p ∷ rest.0, rest.1)
 
 module _ {F : Type 0} (kind : Kind F) (coins : List ℕ) (budget : ℕ) (first : Lists) (before : F) (report : Report) (l : Lists) (after : F)
     (come : Come kind coins budget first before (over (end_number report.end) report.counts) after l) (tally : Tallied report.counts (items_of l.slots)) where
@@ -94,21 +94,21 @@ module _ {F : Type 0} (kind : Kind F) (set : Setting) (a b : F) (o : Outcome) (s
 
   whole : end_number o.report.end ≡ 0 → Complete (kind.faithful a) before (kind.tags b) o
   whole e =
-      let p : Play = run_by set s.hearings (beginning before) in
+      let p : SweepState = run_by set s.hearings (beginning before) in
       let c = ends_balanced set s.hearings before (s.by_rule.at_end ∙ ap ended e) in
-      let fated = λ (d : Distinct before). fates set s.hearings before (kind.sized a) d s.heard (s.by_rule.at_end ∙ ap ended e) in
+      let sweep_effect = λ (d : Distinct before). sweep_effects set s.hearings before (kind.sized a) d s.heard (s.by_rule.at_end ∙ ap ended e) in
       record {
         slots = omega (arith, c.slots, s.by_rule.lone, s.by_rule.silent, s.by_rule.clash);
         commands = λ f.
             let r = s.plain f in
-            let q : Play = replayed set (enough set) (beginning before) in
-            let same = replay_played set (enough set) (beginning before) in
+            let q : SweepState = replayed set (enough set) (beginning before) in
+            let same = replay_is_run set (enough set) (beginning before) in
             let ended_so : q.phase ≡ ended 0 = r.at_end ∙ ap ended e in
             let d = ends_balanced set same.0 before (ap (λ (x : SweepState). x.phase) (sym same.1) ∙ ended_so) in
             let all : q.commands ≡ length q.slots + q.reads + 1 = subst (λ (x : SweepState). x.commands ≡ length x.slots + x.reads + 1) (sym same.1) d.commands in
             omega (arith, all, r.commands, ap length r.slots, r.lone, reads_once set (enough set) before ended_so);
-        tags = λ d. s.by_rule.tags ∙ (fated d).tags;
-        serials = λ d. subst (λ (x : List (List ℕ)). EachOnce x (due_serials before)) (sym s.by_rule.serials) (fated d).serials;
+        tags = λ d. s.by_rule.tags ∙ (sweep_effect d).tags;
+        serials = λ d. subst (λ (x : List (List ℕ)). EachOnce x (due_serials before)) (sym s.by_rule.serials) (sweep_effect d).serials;
       }
 
   pub lawful : Lawful (kind.faithful a) set before (kind.tags b) o

@@ -21,7 +21,7 @@ use Rattle.field.specs.Sends.{first_coin, stepped_all, on_air}
 use Rattle.slot.specs.Commands.{frame_of, target, read}
 use Rattle.slot.specs.Rules.{Setting, Phase, fresh, in_silence, in_lone, in_clash, in_reading, SweepState, Action, beginning, ended, opens, reads, opened_by, read_by, air_of, after_action, advanced, next_plain_hearing, replayed}
 use Rattle.sweep.specs.Tallies.{heard_as, ReadsOnce}
-use Rattle.sweep.proofs.Deeds.{by_deed, holds_replayed}
+use Rattle.sweep.proofs.Actions.{by_action, holds_replayed}
 use Rattle.sweep.proofs.Balances.{one_more}
 
 -- A frame to which a tag replies the same when it comes again.
@@ -98,13 +98,13 @@ once_read Lone serial p heard (inl e) = e
 once_read Lone serial p heard (inr stuck) = absurd (stuck heard)
 
 abbrev StaysOnce : SweepState → Phase → Action → Type 0
-StaysOnce p phase deed =
-    Once phase p → Once p.phase p → Once (after_action deed (plain_hearing (air_of deed p.tags)) p).phase (after_action deed (plain_hearing (air_of deed p.tags)) p)
+StaysOnce p phase action =
+    Once phase p → Once p.phase p → Once (after_action action (plain_hearing (air_of action p.tags)) p).phase (after_action action (plain_hearing (air_of action p.tags)) p)
 
 once_on : (set : Setting) (p : SweepState) → Once p.phase p → Once (advanced set (next_plain_hearing set p) p).phase (advanced set (next_plain_hearing set p) p)
 unfolding advanced next_plain_hearing
 once_on set p once =
-    by_deed set p (StaysOnce p)
+    by_action set p (StaysOnce p)
     (record {
       spent = λ phase over e now. tt;
       full = λ phase over e now. tt;
@@ -120,5 +120,5 @@ once_on set p once =
 
 pub reads_once : ReadsOnce
 reads_once set n tags e =
-    let p : Play = replayed set n (beginning tags) in
+    let p : SweepState = replayed set n (beginning tags) in
     subst (λ (phase : Phase). Once phase p) e (holds_replayed set (λ m q. Once q.phase q) (λ m q. once_on set q) n 0 (beginning tags) refl)

@@ -9,7 +9,7 @@ use Rattle.field.specs.Airs.{Air}
 use Rattle.slot.specs.declared.listed.ListedSlot.{ListedSlot}
 use Rattle.slot.specs.Rules.{Setting, SweepState, beginning, ended, opens, lists, reads, closes, stops, opened_by, read_by, after_action, advanced}
 use Rattle.sweep.specs.Tallies.{Kept, Keeps}
-use Rattle.sweep.proofs.Deeds.{by_deed, holds_played}
+use Rattle.sweep.proofs.Actions.{by_action, holds_run}
 
 opened-not_ended : (h : Hearing) (air : Air) (n : ℕ) → opened_by h air ≡ ended n → ⊥
 opened-not_ended Silence air n e = cc
@@ -78,7 +78,7 @@ module _ (set : Setting) where
     pub kept_on : Kept set (advanced set h p)
     unfolding advanced
     kept_on =
-        by_deed set p (λ phase deed. Kept set (after_action deed h p))
+        by_action set p (λ phase action. Kept set (after_action action h p))
         (record {
           spent = λ phase over. kept_stop 8 (λ e. over) (λ e. absurd (omega arith));
           full = λ phase over. kept_stop 9 (λ e. absurd (omega arith)) (λ e. over);
@@ -96,4 +96,4 @@ module _ (set : Setting) where
   kept_first tags = goes_on (beginning tags) (λ n e. cc) (omega arith) (omega arith) (omega arith) (omega arith)
 
 pub keeps : Keeps
-keeps set hs tags = holds_played set (Kept set) (kept_on set) hs (beginning tags) (kept_first set tags)
+keeps set hs tags = holds_run set (Kept set) (kept_on set) hs (beginning tags) (kept_first set tags)

@@ -273,8 +273,8 @@ readable serial w t fit h =
 pub serial_of_outcome : (t : Tag) → serial_of (outcome t) ≡ serial_of t
 serial_of_outcome t = either (λ (u : Tag). serial_of u ≡ serial_of t) (is_active t) (dealt_with (record t { counter = 0 })) t refl refl
 
-pub serial_of_fate : (t : Tag) → serial_of (tag_after_sweep t) ≡ serial_of t
-serial_of_fate t = either (λ (u : Tag). serial_of u ≡ serial_of t) (is_due t) (dealt_with (record t { counter = 0 })) t refl refl
+pub serial_after_sweep : (t : Tag) → serial_of (tag_after_sweep t) ≡ serial_of t
+serial_after_sweep t = either (λ (u : Tag). serial_of u ≡ serial_of t) (is_due t) (dealt_with (record t { counter = 0 })) t refl refl
 
 -- What a sweep's commands do to each tag.
 pub select_each : Takes (order_in (opening select)) (λ t. Unit {0}) (Fit 0) tag_after_sweep is_due

@@ -31,15 +31,15 @@ serials_grow (reads serial) h p = omega arith
 serials_grow closes h p = omega arith
 serials_grow rests h p = omega arith
 
-slots_played : (set : Setting) (hs : List Hearing) (p : SweepState) → length p.slots ≤ length (run_by set hs p).slots
+slots_run : (set : Setting) (hs : List Hearing) (p : SweepState) → length p.slots ≤ length (run_by set hs p).slots
 unfolding run_by advanced
-slots_played set [] p = omega arith
-slots_played set (h ∷ hs) p = omega (arith, slots_grow (next_action set p) h p, slots_played set hs (after_action (next_action set p) h p))
+slots_run set [] p = omega arith
+slots_run set (h ∷ hs) p = omega (arith, slots_grow (next_action set p) h p, slots_run set hs (after_action (next_action set p) h p))
 
-serials_played : (set : Setting) (hs : List Hearing) (p : SweepState) → length p.serials ≤ length (run_by set hs p).serials
+serials_run : (set : Setting) (hs : List Hearing) (p : SweepState) → length p.serials ≤ length (run_by set hs p).serials
 unfolding run_by advanced
-serials_played set [] p = omega arith
-serials_played set (h ∷ hs) p = omega (arith, serials_grow (next_action set p) h p, serials_played set hs (after_action (next_action set p) h p))
+serials_run set [] p = omega arith
+serials_run set (h ∷ hs) p = omega (arith, serials_grow (next_action set p) h p, serials_run set hs (after_action (next_action set p) h p))
 
 shown_slots : (w : Position) (l : Lists) (population : List Tag) (p : SweepState) → IsAt w l population p → p.slots ≡ items_of l.slots
 shown_slots (at_slot phase progress) l population p s = s.slots
@@ -78,7 +78,7 @@ module _ {F : Type 0} (kind : Kind F) (coins : List ℕ) (budget : ℕ) (first :
           ap length come.2.slots,
           ap length (shown_slots w later (kind.tags left) r.0 r.2),
           ap (λ (p : SweepState). length p.slots) r.1.there,
-          slots_played (setting coins progress.budget now) r.1.hearings come.0,
+          slots_run (setting coins progress.budget now) r.1.hearings come.0,
         ) in
         let serials : length (items_of now.serials) ≤ length (items_of later.serials) =
         omega (
@@ -86,7 +86,7 @@ module _ {F : Type 0} (kind : Kind F) (coins : List ℕ) (budget : ℕ) (first :
           ap length come.2.serials,
           ap length (shown_serials w later (kind.tags left) r.0 r.2),
           ap (λ (p : SweepState). length p.serials) r.1.there,
-          serials_played (setting coins progress.budget now) r.1.hearings come.0,
+          serials_run (setting coins progress.budget now) r.1.hearings come.0,
         ) in
         record {
           slots = behind_more first.slots now.slots later.slots behind.slots more.slots slots;

@@ -12,7 +12,7 @@ use Rattle.sweep.specs.Effects.{tag_after_sweep, due_serials, EachOnce, SweepEff
 use Rattle.sweep.specs.Tallies.{Balanced}
 use Rattle.sweep.specs.Whole.{Outcome, Swept}
 use Rattle.sweep.proofs.Balances.{ends_balanced}
-use Rattle.sweep.proofs.Plays.{fates}
+use Rattle.sweep.proofs.Runs.{sweep_effects}
 use Rattle.history.specs.declared.call.Call.{Call}
 use Rattle.history.specs.declared.call.Call.TheVariants as call
 use Rattle.history.specs.declared.workspace.Workspace.{Workspace}
@@ -32,13 +32,13 @@ settled : {F : Type 0} (kind : Kind F) (set : Setting) (a b : F) (o : Outcome) �
     → Settled (kind.tags a) (kind.tags b) o
 settled kind set a b o s clean =
     let before : List Tag = kind.tags a in
-    let p : Play = run_by set s.hearings (beginning before) in
+    let p : SweepState = run_by set s.hearings (beginning before) in
     let at_end : p.phase ≡ ended 0 = s.by_rule.at_end ∙ ap ended clean.whole in
-    let fated : SweepEffect before p = fates set s.hearings before (kind.sized a) clean.distinct s.heard at_end in
+    let sweep_effect : SweepEffect before p = sweep_effects set s.hearings before (kind.sized a) clean.distinct s.heard at_end in
     let complete : Balanced p = ends_balanced set s.hearings before at_end in
     record {
-      tags = s.by_rule.tags ∙ fated.tags;
-      serials = subst (λ (l : List (List ℕ)). EachOnce l (due_serials before)) (sym s.by_rule.serials) fated.serials;
+      tags = s.by_rule.tags ∙ sweep_effect.tags;
+      serials = subst (λ (l : List (List ℕ)). EachOnce l (due_serials before)) (sym s.by_rule.serials) sweep_effect.serials;
       slots = ap₂ (λ (m n : ℕ). m + n) s.by_rule.lone s.by_rule.silent ∙ complete.slots ∙ ap (λ (n : ℕ). n + 1) (sym s.by_rule.clash);
     }
 

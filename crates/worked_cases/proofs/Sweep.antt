@@ -21,6 +21,6 @@ pub deep_sweeps : DeepSweeps
 unfolding DeepSweeps advanced next_plain_hearing MayHearNext run_by MayHearAll replayed select query scroll repeat read serial_in stepped_all on_air padded opening is_sealed without_check_value parameters_of command_with_code moved_up bit_taken bits byte_taken sealed bytes_from
 deep_sweeps = search
 
-pub worked_fates : WorkedFates
+pub worked_effects : WorkedFates
 unfolding WorkedFates bytes_from
-worked_fates = search
+worked_effects = search

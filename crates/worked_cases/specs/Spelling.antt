@@ -13,7 +13,7 @@ use Rattle.record.specs.declared.WriteMark.TheVariants.{Clear, Fading, Fresh}
 use Rattle.reply.specs.declared.Reply.{Reply}
 use Rattle.reply.specs.declared.Reply.TheVariants.{Serial, Memory, Status}
 use Rattle.notation.specs.declared.error.NotationError.{NotationError}
-use Rattle.notation.specs.declared.error.NotationError.TheVariants as misspelt
+use Rattle.notation.specs.declared.error.NotationError.TheVariants as notation_error
 use Rattle.notation.specs.Hexadecimal.{shown, has_small, SpellsBytes, SpellsArray, SpellsByte}
 use Rattle.notation.specs.Errors.{error_text, line_text, of_hex}
 use Rattle.notation.specs.Samples.{numbered_serial, numbered_memory, sample_serial, sample_memory}
@@ -85,18 +85,18 @@ SpeltLocks =
 unfoldable pub ErrorsListed : Type 0
 ErrorsListed =
     AllByRecursion {X = NotationError × String} (λ (error, text). error_text error ≡ codes text)
-    ((misspelt.Bytes, "not the bytes that are wanted, in hexadecimal") ∷ (misspelt.Bit, "neither 0 nor 1")
-    ∷ (misspelt.Mark, "no write mark") ∷ (misspelt.Missing, "a word is missing")
-    ∷ (misspelt.Surplus, "a word too many") ∷ (misspelt.Memory, "out of memory")
-    ∷ (misspelt.Refused refusal.Code, "code") ∷ (misspelt.Refused refusal.Length, "length")
-    ∷ (misspelt.Refused refusal.Buffer, "buffer") ∷ [])
+    ((notation_error.Bytes, "not the bytes that are wanted, in hexadecimal") ∷ (notation_error.Bit, "neither 0 nor 1")
+    ∷ (notation_error.Mark, "no write mark") ∷ (notation_error.Missing, "a word is missing")
+    ∷ (notation_error.Surplus, "a word too many") ∷ (notation_error.Memory, "out of memory")
+    ∷ (notation_error.Refused refusal.Code, "code") ∷ (notation_error.Refused refusal.Length, "length")
+    ∷ (notation_error.Refused refusal.Buffer, "buffer") ∷ [])
 
 -- What the errors of reading hexadecimal are here.
 unfoldable pub ErrorsOfHex : Type 0
 ErrorsOfHex =
     AllByRecursion {X = FromHexError × NotationError} (λ (error, here). of_hex error ≡ here)
-    ((InvalidHexCharacter 71 1, misspelt.Bytes) ∷ (OddLength, misspelt.Bytes) ∷ (InvalidStringLength, misspelt.Bytes)
-    ∷ (OutOfMemory, misspelt.Memory) ∷ [])
+    ((InvalidHexCharacter 71 1, notation_error.Bytes) ∷ (OddLength, notation_error.Bytes)
+    ∷ (InvalidStringLength, notation_error.Bytes) ∷ (OutOfMemory, notation_error.Memory) ∷ [])
 
 -- Numbers of lines, and what is printed of each.
 unfoldable pub LinesListed : Type 0
@@ -132,8 +132,8 @@ FramesListed =
 unfoldable pub NoFramesListed : Type 0
 NoFramesListed =
     AllByRecursion {X = ℕ × String × NotationError} (λ (code, parameters, error). IsNoFrame code (bytes parameters) error)
-    ((0x01, "", misspelt.Refused refusal.Code) ∷ (0x09, "30", misspelt.Refused refusal.Length)
-    ∷ (0x1b, "303132333435363738393A3B3C3D3E", misspelt.Refused refusal.Length) ∷ [])
+    ((0x01, "", notation_error.Refused refusal.Code) ∷ (0x09, "30", notation_error.Refused refusal.Length)
+    ∷ (0x1b, "303132333435363738393A3B3C3D3E", notation_error.Refused refusal.Length) ∷ [])
 
 -- Tags, what each replies, if anything, and the bytes that are sent.
 unfoldable pub RepliesListed : Type 0

@@ -20,7 +20,7 @@ pub fn deep_splits()
 {}
 
 /// What a whole sweep leaves of tags, and whose serial numbers it lists.
-#[tactic(auto, using(crate::proofs::Sweep::worked_fates))]
-pub fn fates()
+#[tactic(auto, using(crate::proofs::Sweep::worked_effects))]
+pub fn sweep_effects()
     ensures { WorkedFates }
 {}

@@ -26,7 +26,7 @@ use Rattle.record.specs.declared.WriteMark.TheVariants.{Clear, Fading, Fresh}
 use Rattle.reply.specs.declared.Reply.{Reply}
 use Rattle.reply.specs.declared.Reply.TheVariants.{Serial, Memory, Status}
 use Rattle.notation.specs.declared.error.NotationError.{NotationError}
-use Rattle.notation.specs.declared.error.NotationError.TheVariants as misspelt
+use Rattle.notation.specs.declared.error.NotationError.TheVariants as notation_error
 use Rattle.notation.specs.Hexadecimal.{shown, has_small, SpellsBytes, SpellsArray, SpellsByte}
 use Rattle.notation.specs.Errors.{error_text, line_text, of_hex}
 use Rattle.notation.specs.Samples.{numbered_serial, numbered_memory, sample_serial, sample_memory}
@@ -203,8 +203,8 @@ fn spelt_locks() -> Listing {
 }
 
 /// An error by its name, with what stands in it.
-fn misspelt(name: &str, parts: &[Term]) -> Term {
-    Term::call(&format!("misspelt.{name}"), parts)
+fn notation_error(name: &str, parts: &[Term]) -> Term {
+    Term::call(&format!("notation_error.{name}"), parts)
 }
 
 fn errors() -> Listing {
@@ -216,12 +216,12 @@ fn errors() -> Listing {
         ("Surplus", "a word too many"),
         ("Memory", "out of memory"),
     ]
-    .map(|(name, told)| row(&[misspelt(name, &[]), text(told)]))
+    .map(|(name, told)| row(&[notation_error(name, &[]), text(told)]))
     .to_vec();
     // Those of making.
     rows.extend(["Code", "Length", "Buffer"].map(|word| {
         let told = text(&word.to_lowercase());
-        row(&[misspelt("Refused", &[refusal(word)]), told])
+        row(&[notation_error("Refused", &[refusal(word)]), told])
     }));
     Listing {
         about: "The errors, and what is printed of each.",
@@ -243,7 +243,7 @@ fn errors_of_hex() -> Listing {
             (Term::word("InvalidStringLength"), "Bytes"),
             (Term::word("OutOfMemory"), "Memory"),
         ]
-        .map(|(error, name)| row(&[error, misspelt(name, &[])]))
+        .map(|(error, name)| row(&[error, notation_error(name, &[])]))
         .to_vec(),
     }
 }
@@ -318,7 +318,7 @@ fn no_frames() -> Listing {
             .into_iter()
             .find(|(_, of_it)| *of_it == number)
             .expect("each refusal has a word");
-        let error = misspelt("Refused", &[refusal(word)]);
+        let error = notation_error("Refused", &[refusal(word)]);
         row(&[byte(code), digits(&counted(length)), error])
     };
     Listing {

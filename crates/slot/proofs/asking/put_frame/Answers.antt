@@ -24,8 +24,8 @@ made_of c parameters room l r =
     let short : length_of c ≤ 17 = longest c in
     makes (code_of c) parameters room c (named_self c) l (omega arith)
 
-told_frame : (n : ℕ) (frame b after : List ℕ) → wrote n ≡ wrote (length frame) → after ≡ frame ++ drop (length frame) b → take n after ≡ frame
-told_frame n frame b after e f =
+frame_written : (n : ℕ) (frame b after : List ℕ) → wrote n ≡ wrote (length frame) → after ≡ frame ++ drop (length frame) b → take n after ≡ frame
+frame_written n frame b after e f =
     ap₂ (λ (k : ℕ) (x : List ℕ). take k x) (ap number_in e) f ∙ take-append_seam frame (drop (length frame) b)
 
 -- What is told of a frame that is made.
@@ -43,7 +43,7 @@ pub returns-in-Ok-clause-made : goal.returns-in-Ok-clause-made
 returns-in-Ok-clause-made c =
     let answer : wrote c.in-Ok.length ≡ wrote (length (frame_of c.args.command c.args.parameters.now)) =
     told_of (Ok c.in-Ok.length) c.args.command c.args.parameters.now c.args.frame.now c.code.result c.code.ensures c.requires.fits c.requires.room c.in-Ok.ensures.answer in
-    told_frame c.in-Ok.length (frame_of c.args.command c.args.parameters.now) c.args.frame.now c.make.new.buffer answer
+    frame_written c.in-Ok.length (frame_of c.args.command c.args.parameters.now) c.args.frame.now c.make.new.buffer answer
     (left_of c.args.command c.args.parameters.now c.args.frame.now c.make.new.buffer c.code.result c.code.ensures c.requires.fits c.requires.room c.in-Ok.ensures.buffer)
 
 pub returns-in-Err-clause-made : goal.returns-in-Err-clause-made

@@ -16,9 +16,9 @@ use Rattle.slot.proofs.Moves.{reaches_by, led_on, stopped}
 use Rattle.slot.proofs.kinds.LoneSlot.read.Goals as goal
 
 -- The next action at a lone slot, by whether the list is full.
-lone_deed : (set : Setting) (p : SweepState) (serial : List ℕ) (b : Bool) → p.phase ≡ in_lone serial → nat_le set.serial_room (length p.serials) ≡ b
+lone_action : (set : Setting) (p : SweepState) (serial : List ℕ) (b : Bool) → p.phase ≡ in_lone serial → nat_le set.serial_room (length p.serials) ≡ b
     → next_action set p ≡ cond b (stops 9) (lists serial)
-lone_deed set p serial b e w = ap (action_in set p) e ∙ ap (λ (x : Bool). cond x (stops 9) (lists serial)) w
+lone_action set p serial b e w = ap (action_in set p) e ∙ ap (λ (x : Bool). cond x (stops 9) (lists serial)) w
 
 pub returns-then-is_err-clause-rule : goal.returns-then-is_err-clause-rule
 returns-then-is_err-clause-rule g c coins p s =
@@ -27,7 +27,7 @@ returns-then-is_err-clause-rule g c coins p s =
     let kept : items_of c.args.lists.now.serials ≡ items_of c.push.new.self =
     sym (c.push.ensures.items ∙ ap (λ (b : Bool). with_item b (items_of c.args.lists.now.serials) c.args.self.serial) full) in
     stopped g.F.Field set p (record { slots = c.args.lists.now.slots; serials = c.push.new.self }) c.args.field.now c.args.field.now 9 c.stopped.result
-    (lone_deed set p c.args.self.serial true s.phase (ap (λ (rows : List (List ℕ)). nat_le set.serial_room (length rows)) s.serials ∙ full)) refl
+    (lone_action set p c.args.self.serial true s.phase (ap (λ (rows : List (List ℕ)). nat_le set.serial_room (length rows)) s.serials ∙ full)) refl
     (ap (λ (x : Stopped). stop_number x.stop) c.stopped.ensures) (s.commands ∙ ap (λ (x : Stopped). x.counts.commands) (sym c.stopped.ensures)) s.slots
     (s.serials ∙ kept) s.tags
 
@@ -40,7 +40,7 @@ then_read kind coins self before after to a b free slots rows room read p s =
     let set : Setting = setting coins self.progress.budget before in
     let listed : items_of before.serials ++ self.serial ∷ [] ≡ items_of after.serials =
     sym (rows ∙ ap (λ (x : Bool). with_item x (items_of before.serials) self.serial) free) in
-    let q : Play = after_action (lists self.serial) Silence p in
+    let q : SweepState = after_action (lists self.serial) Silence p in
     let stands : IsAtSlot (in_reading self.serial) self.progress after (kind.tags a) q =
     record {
       phase = refl;
@@ -54,7 +54,7 @@ then_read kind coins self before after to a b free slots rows room read p s =
     let same : setting coins self.progress.budget after ≡ set =
     ap₂ (λ (m n : ℕ). record { coins = coins; budget = self.progress.budget; slot_room = m; serial_room = n }) (ap (λ (l : SliceVec ListedSlot). capacity_of l) slots) room in
     let first = reaches_by kind set p (lists self.serial) Silence a a
-    (lone_deed set p self.serial false s.phase (ap (λ (x : List (List ℕ)). nat_le set.serial_room (length x)) s.serials ∙ free)) refl (λ f. refl) refl in
+    (lone_action set p self.serial false s.phase (ap (λ (x : List (List ℕ)). nat_le set.serial_room (length x)) s.serials ∙ free)) refl (λ f. refl) refl in
     led_on kind set _ p q to a a b after first same (read q stands)
 
 pub returns-clause-rule : goal.returns-clause-rule

@@ -14,7 +14,7 @@ use Rattle.field.specs.declared.hearing.Hearing.TheVariants.{Silence, Lone, Clas
 use Rattle.slot.specs.Commands.{frame_of, target, read}
 use Rattle.slot.specs.Calls.{setting, at_slot, over, ReachesPosition, counts_read}
 use Rattle.slot.specs.Rules.{Setting, SweepState, Phase, in_reading, read_by, reads, action_in}
-use Rattle.slot.proofs.Moves.{reaches_self, led_on, read_once, with_one, stopped, budget_deed}
+use Rattle.slot.proofs.Moves.{reaches_self, led_on, read_once, with_one, stopped, budget_action}
 use Rattle.slot.proofs.kinds.Progress.read.Goals as goal
 
 -- What is heard otherwise than as lone is sent again.
@@ -117,7 +117,7 @@ returns-clause-rule g c coins lists p s =
     was.1 refl
     (stopped g.F.Field set was.0 lists c.loop-sent.field c.loop-sent.field 8 c.stopped.result
     (ap (action_in set was.0) was.2.phase
-    ∙ budget_deed set was.0 (reads c.args.serial.now) true
+    ∙ budget_action set was.0 (reads c.args.serial.now) true
     (ap (nat_le c.args.self.budget) (was.2.commands ∙ c.loop-sent.invariant.commands) ∙ le-leb c.args.self.budget c.loop-sent.sent past)) refl
     (ap (λ (x : Stopped). stop_number x.stop) c.stopped.ensures) (was.2.commands ∙ ap (λ (x : Stopped). x.counts.commands) (sym c.stopped.ensures)) was.2.slots
     was.2.serials was.2.tags)

@@ -9,8 +9,8 @@ returns-in_err-close-clause-rule g c coins p s =
     (handed position_after c.from_residual.result c.in_err-close.field-0.0 c.from_residual.ensures.1)
     (c.in_err-close.ensures.rule coins c.args.lists.now p s)
 
-pub returns-then-stand-eq0-clause-rule : goal.returns-then-stand-eq0-clause-rule
-returns-then-stand-eq0-clause-rule g c coins p s = c.in_ok-close.ensures.rule coins c.args.lists.now p s
+pub returns-then-progress-eq0-clause-rule : goal.returns-then-progress-eq0-clause-rule
+returns-then-progress-eq0-clause-rule g c coins p s = c.in_ok-close.ensures.rule coins c.args.lists.now p s
 
 pub returns-in_err-scroll-clause-rule : goal.returns-in_err-scroll-clause-rule
 returns-in_err-scroll-clause-rule g c coins p s =

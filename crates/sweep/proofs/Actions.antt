@@ -21,42 +21,42 @@ pub record EachDeed (set : Setting) (p : SweepState) (P : Phase → Action → T
   pub closing : p.waiting ≡ 0 → p.commands < set.budget → P in_silence closes
   pub resting : (n : ℕ) → P (ended n) rests
 
-within_budget : (set : Setting) (p : SweepState) (P : Action → Type 0) (deed : Action) → (set.budget ≤ p.commands → P (stops 8))
-    → (p.commands < set.budget → P deed) → P (budget_checked set p deed)
-within_budget set p P deed spent on =
-    cond_both (leb set.budget p.commands) (stops 8) deed P (λ e. spent (leb-true set.budget p.commands e)) (λ e. on (leb-false set.budget p.commands e))
+within_budget : (set : Setting) (p : SweepState) (P : Action → Type 0) (action : Action) → (set.budget ≤ p.commands → P (stops 8))
+    → (p.commands < set.budget → P action) → P (budget_checked set p action)
+within_budget set p P action spent on =
+    cond_both (leb set.budget p.commands) (stops 8) action P (λ e. spent (leb-true set.budget p.commands e)) (λ e. on (leb-false set.budget p.commands e))
 
-with_room : (set : Setting) (p : SweepState) (P : Action → Type 0) (deed : Action) → (set.budget ≤ p.commands → P (stops 8))
-    → (set.slot_room ≤ length p.slots → P (stops 9)) → (p.commands < set.budget → length p.slots < set.slot_room → P deed)
-    → P (room_checked set p deed)
-with_room set p P deed spent full on =
+with_room : (set : Setting) (p : SweepState) (P : Action → Type 0) (action : Action) → (set.budget ≤ p.commands → P (stops 8))
+    → (set.slot_room ≤ length p.slots → P (stops 9)) → (p.commands < set.budget → length p.slots < set.slot_room → P action)
+    → P (room_checked set p action)
+with_room set p P action spent full on =
     within_budget set p P _ spent
-    (λ h. cond_both (leb set.slot_room (length p.slots)) (stops 9) deed P (λ e. full (leb-true set.slot_room (length p.slots) e))
+    (λ h. cond_both (leb set.slot_room (length p.slots)) (stops 9) action P (λ e. full (leb-true set.slot_room (length p.slots) e))
     (λ e. on h (leb-false set.slot_room (length p.slots) e)))
 
-pub by_deed : (set : Setting) (p : SweepState) (P : Phase → Action → Type 0) → EachDeed set p P → (phase : Phase) → P phase (action_in set p phase)
-by_deed set p P each fresh = with_room set p (P fresh) _ (each.spent fresh) (λ h. each.full fresh (inl h)) each.selecting
-by_deed set p P each in_silence =
+pub by_action : (set : Setting) (p : SweepState) (P : Phase → Action → Type 0) → EachDeed set p P → (phase : Phase) → P phase (action_in set p phase)
+by_action set p P each fresh = with_room set p (P fresh) _ (each.spent fresh) (λ h. each.full fresh (inl h)) each.selecting
+by_action set p P each in_silence =
     cond_both (eqb p.waiting 0) _ _ (P in_silence)
     (λ e. within_budget set p (P in_silence) closes (each.spent in_silence) (each.closing (eqb-true p.waiting 0 e)))
     (λ e. with_room set p (P in_silence) _ (each.spent in_silence) (λ h. each.full in_silence (inl h)) (each.scrolling (eqb-false p.waiting 0 e)))
-by_deed set p P each (in_lone serial) =
+by_action set p P each (in_lone serial) =
     cond_both (leb set.serial_room (length p.serials)) (stops 9) (lists serial) (P (in_lone serial))
     (λ e. each.full (in_lone serial) (inr (leb-true set.serial_room (length p.serials) e)))
     (λ e. each.listing serial (leb-false set.serial_room (length p.serials) e))
-by_deed set p P each in_clash =
+by_action set p P each in_clash =
     cond_both (eqb p.waiting 255) (stops 7) _ (P in_clash) (λ e. each.crowded)
     (λ e. with_room set p (P in_clash) _ (each.spent in_clash) (λ h. each.full in_clash (inl h)) each.querying)
-by_deed set p P each (in_reading serial) =
+by_action set p P each (in_reading serial) =
     within_budget set p (P (in_reading serial)) (reads serial) (each.spent (in_reading serial)) (each.reading serial)
-by_deed set p P each (ended n) = each.resting n
+by_action set p P each (ended n) = each.resting n
 
 -- What every action keeps holds of a whole run.
-pub holds_played : (set : Setting) (P : SweepState → Type 0) → ((h : Hearing) (p : SweepState) → P p → P (advanced set h p)) → (hs : List Hearing) (p : SweepState) → P p
+pub holds_run : (set : Setting) (P : SweepState → Type 0) → ((h : Hearing) (p : SweepState) → P p → P (advanced set h p)) → (hs : List Hearing) (p : SweepState) → P p
     → P (run_by set hs p)
 unfolding run_by
-holds_played set P step [] p h = h
-holds_played set P step (x ∷ xs) p h = holds_played set P step xs (advanced set x p) (step x p h)
+holds_run set P step [] p h = h
+holds_run set P step (x ∷ xs) p h = holds_run set P step xs (advanced set x p) (step x p h)
 
 -- The same of a replay, with the actions counted.
 pub holds_replayed : (set : Setting) (P : ℕ → SweepState → Type 0) → ((m : ℕ) (p : SweepState) → P m p → P (m + 1) (advanced set (next_plain_hearing set p) p)) → (n m : ℕ) (p : SweepState)
@@ -66,6 +66,6 @@ holds_replayed set P step zero m p h =
     let e : m ≡ m + 0 = omega arith in
     subst (λ (k : ℕ). P k p) e h
 holds_replayed set P step (suc n) m p h =
-    let q : Play = advanced set (next_plain_hearing set p) p in
+    let q : SweepState = advanced set (next_plain_hearing set p) p in
     let e : m + 1 + n ≡ m + suc n = omega arith in
     subst (λ (k : ℕ). P k (replayed set n q)) e (holds_replayed set P step n (m + 1) q (step m p h))

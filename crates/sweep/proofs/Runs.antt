@@ -188,35 +188,35 @@ module _ (before : List Tag) (sized : AreSized (map serial_of before)) where
       }
 
   -- Each action, by the phase.
-  deed : (set : Setting) (h : Hearing) (p : SweepState) (phase : Phase) → Clears before h → p.phase ≡ phase → Stands before p phase
+  action : (set : Setting) (h : Hearing) (p : SweepState) (phase : Phase) → Clears before h → p.phase ≡ phase → Stands before p phase
       → StandsAfter before h p (action_in set p phase)
-  deed set h p fresh clear e k =
+  action set h p fresh clear e k =
       within_room before set h p (opens Select select 0 0 0)
       (slot Select select 0 0 0 h p (λ t. Unit {0}) tag_after_sweep is_due clear select_each select_heard (units p.tags) (ap (map tag_after_sweep) k.0)
       (λ serial. ap₂ (λ (l : List (List ℕ)) (ts : List Tag). times serial l + tally is_due serial ts) k.1 k.0 ∙ omega arith))
-  deed set h p in_silence clear e k =
+  action set h p in_silence clear e k =
       cond_both (eqb p.waiting 0) (budget_checked set p closes) (room_checked set p (opens Scroll scroll 0 (p.waiting - 1) p.next)) (StandsAfter before h p)
       (λ z. within_budget before set h p closes (λ m. λ zero. closing h p k (eqb-true p.waiting 0 z)))
       (λ z. within_room before set h p (opens Scroll scroll 0 (p.waiting - 1) p.next)
       (slot Scroll scroll 0 (p.waiting - 1) p.next h p (Fit p.waiting) outcome is_active clear (scroll_each p.waiting) scroll_heard k.0.fits k.0.outcomes k.0.counts))
-  deed set h p (in_lone serial) clear e k =
+  action set h p (in_lone serial) clear e k =
       cond_both (leb set.serial_room (length p.serials)) (stops 9) (lists serial) (StandsAfter before h p) (λ z. stopped before h p 9 (λ x. omega arith))
       (λ z. listed serial h p k)
-  deed set h p in_clash clear e k =
+  action set h p in_clash clear e k =
       cond_both (eqb p.waiting 255) (stops 7)
       (room_checked set p (opens Query query (coins_at set.coins p.next) (p.waiting + 1) (place_behind set.coins p.next))) (StandsAfter before h p)
       (λ z. stopped before h p 7 (λ x. omega arith))
       (λ z. within_room before set h p (opens Query query (coins_at set.coins p.next) (p.waiting + 1) (place_behind set.coins p.next))
       (slot Query query (coins_at set.coins p.next) (p.waiting + 1) (place_behind set.coins p.next) h p (Fit p.waiting) outcome is_active clear
       (query_each p.waiting) query_heard k.fits k.outcomes k.counts))
-  deed set h p (in_reading serial) clear e k = within_budget before set h p (reads serial) (λ m. was_read serial p k h)
-  deed set h p (ended n) clear e k = λ m. subst (λ (phase : Phase). Stands before p phase) (sym e) k
+  action set h p (in_reading serial) clear e k = within_budget before set h p (reads serial) (λ m. was_read serial p k h)
+  action set h p (ended n) clear e k = λ m. subst (λ (phase : Phase). Stands before p phase) (sym e) k
 
-  pub deeds : (set : Setting) (hs : List Hearing) (p : SweepState) → AllByRecursion (Clears before) hs → Stands before p p.phase → MayHearAll set hs p
+  pub actions : (set : Setting) (hs : List Hearing) (p : SweepState) → AllByRecursion (Clears before) hs → Stands before p p.phase → MayHearAll set hs p
       → Stands before (run_by set hs p) (run_by set hs p).phase
   unfolding run_by MayHearAll advanced MayHearNext
-  deeds set [] p clear k heard = k
-  deeds set (h ∷ hs) p clear k heard = deeds set hs (advanced set h p) clear.1 (deed set h p p.phase clear.0 refl k heard.0) heard.1
+  actions set [] p clear k heard = k
+  actions set (h ∷ hs) p clear k heard = actions set hs (advanced set h p) clear.1 (action set h p p.phase clear.0 refl k heard.0) heard.1
 
 -- Serial numbers have eight bytes, as memories have 56.
 serials_each : (tags : List Tag) → AllByRecursion (λ t. length t.memory ≡ 56) tags → AreSized (map serial_of tags)
@@ -232,14 +232,14 @@ pub over : (set : Setting) (hs : List Hearing) (tags : List Tag) → Sized tags 
     → (run_by set hs (beginning tags)).phase ≡ ended 0 → Over tags (run_by set hs (beginning tags))
 over set hs tags sized clear heard e =
     subst (λ (phase : Phase). Stands tags (run_by set hs (beginning tags)) phase) e
-    (deeds tags (sized_serials tags sized) set hs (beginning tags) clear (refl, refl) heard) refl
+    (actions tags (sized_serials tags sized) set hs (beginning tags) clear (refl, refl) heard) refl
 
 all_clear : (tags : List Tag) → Distinct tags → (hs : List Hearing) → AllByRecursion (Clears tags) hs
 all_clear tags distinct [] = tt
 all_clear tags distinct (h ∷ hs) = ((λ lone. distinct), all_clear tags distinct hs)
 
-pub fates : SweepEffects
-fates set hs tags sized distinct heard e =
+pub sweep_effects : SweepEffects
+sweep_effects set hs tags sized distinct heard e =
     let o = over set hs tags sized (all_clear tags distinct hs) heard e in
     record {
       tags = o.tags;
