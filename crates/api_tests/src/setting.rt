@@ -1,13 +1,13 @@
 // What the tests share: two new tags, and their sweep slot by slot.
 use bench::bench::Bench;
 use field::hearing::Hearing;
+use notation::sample::numbered_tag;
 use protocol::command::Command;
 use record::{Serial, Tag};
 use slice_vec::vec::SliceVec;
 use slot::kinds::{ClashSlot, LoneSlot, Slot};
-use slot::lists::Lists;
 use slot::listed::ListedSlot;
-use notation::sample::numbered_tag;
+use slot::lists::Lists;
 use std::process::Abort;
 
 // The row in which the second tag lets the first go before.

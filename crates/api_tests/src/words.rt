@@ -1,9 +1,9 @@
 // What is read and refused of each kind of word.
-use record::WriteMark;
-use notation::hexadecimal::{read_array, read_byte};
 use notation::error::NotationError;
 use notation::error::NotationError::{Bit, Bytes, Mark};
+use notation::hexadecimal::{read_array, read_byte};
 use notation::words::{read_bit, read_locks, read_mark, read_permission};
+use record::WriteMark;
 
 // The crate `hex` reads small letters too, which are no digits here.
 #[test]

@@ -1,9 +1,9 @@
 // Tables of tags, as fields.
 #![tactic(auto)]
 
-mod single_field;
 pub mod bench;
-mod measuring;
 mod bench_field;
+mod measuring;
 pub mod single;
+mod single_field;
 mod table_walk;

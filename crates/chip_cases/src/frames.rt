@@ -2,9 +2,9 @@
 use crc::check_value;
 use frame::making::make;
 use frame::opening::{Frame, open};
-use protocol::command::PARAMETERS;
 use notation::hexadecimal::{Hex, read_byte, read_bytes};
 use notation::words::{no_word, word};
+use protocol::command::PARAMETERS;
 use std::alloc::{AllocError, Global};
 use std::{fmt, iter};
 

@@ -10,8 +10,8 @@ mod tags;
 use crate::frames::{answer_check, answer_make, answer_open};
 use crate::tags::AskedTag;
 use anyhow::Context;
-use record::{MEMORY_LENGTH, Tag};
 use notation::line::Line;
+use record::{MEMORY_LENGTH, Tag};
 use std::io::{BufRead, BufReader};
 use std::process::ExitCode;
 

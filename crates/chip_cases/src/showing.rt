@@ -1,6 +1,6 @@
 // Answers, as they are written.
-use record::Tag;
 use notation::hexadecimal::Hex;
+use record::Tag;
 use std::fmt;
 
 // A tag's record, where it is no longer what it was, and its reply.

@@ -3,11 +3,11 @@ use crate::QUESTIONS;
 use crate::showing::TagAnswer;
 use anyhow::bail;
 use frame::opening::open;
+use notation::encoding::write_reply;
+use notation::hexadecimal::{read_array, read_bytes};
+use notation::words::{no_word, read_bit, read_locks, read_parts, word};
 use record::{MEMORY_LENGTH, Tag};
 use reply::Reply;
-use notation::hexadecimal::{read_array, read_bytes};
-use notation::encoding::write_reply;
-use notation::words::{no_word, read_bit, read_locks, read_parts, word};
 use tag::step;
 
 // A tag that is asked, and where its answers are printed.

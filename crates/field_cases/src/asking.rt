@@ -13,8 +13,8 @@ use anyhow::ensure;
 use field::field::ROOM;
 use field::hearing::Hearing;
 use field::lending::Lending;
-use protocol::refusal::Refusal;
 use notation::hexadecimal::{Hex, read_bytes};
+use protocol::refusal::Refusal;
 use std::alloc::Global;
 use std::fmt;
 

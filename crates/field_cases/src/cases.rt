@@ -14,9 +14,9 @@ use anyhow::{Context, bail, ensure};
 use bench::bench::{Bench, place_of};
 use field::field::Field;
 use field::lending::Lending;
-use record::Tag;
 use notation::hexadecimal::read_bytes;
 use notation::line::Line;
+use record::Tag;
 use std::io::{BufRead, BufReader};
 
 // The answer to a question. Where there is none, nothing is said of the field: its answer may have gone unprinted.
@@ -39,7 +39,11 @@ fn answer<F: Lending>(
     }
 }
 
-fn answer_send<F: Lending>(rt: &HostRuntime, asked: &mut AskedField<F>, text: &str) -> anyhow::Result<()>
+fn answer_send<F: Lending>(
+    rt: &HostRuntime,
+    asked: &mut AskedField<F>,
+    text: &str,
+) -> anyhow::Result<()>
     ensures { IfOk result (λ _. Sends text.now (F.tags asked.old.field) (F.tags asked.new.field)) }
 {
     let sending = SendQuestion::read(rt.alloc(), text)?;
@@ -47,7 +51,11 @@ fn answer_send<F: Lending>(rt: &HostRuntime, asked: &mut AskedField<F>, text: &s
     Ok(())
 }
 
-fn answer_gap<F: Lending>(rt: &HostRuntime, asked: &mut AskedField<F>, text: &str) -> anyhow::Result<()>
+fn answer_gap<F: Lending>(
+    rt: &HostRuntime,
+    asked: &mut AskedField<F>,
+    text: &str,
+) -> anyhow::Result<()>
     ensures { IfOk result (λ _. Passes text.now (F.tags asked.old.field) (F.tags asked.new.field)) }
 {
     println!(rt; "gap {}", asked.pass(text.parse::<u32>()?))?;
@@ -160,6 +168,9 @@ pub(crate) fn answer_cases(rt: &HostRuntime) -> anyhow::Result<()> {
             lines.push(line)?;
         }
     }
-    ensure!(lines.is_empty(), "no line `end` behind the last answer_case");
+    ensure!(
+        lines.is_empty(),
+        "no line `end` behind the last answer_case"
+    );
     Ok(())
 }

@@ -6,8 +6,8 @@
 
 mod asking;
 mod building;
-mod nesting;
 mod cases;
+mod nesting;
 mod reading;
 mod showing;
 mod storage;

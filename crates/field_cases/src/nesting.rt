@@ -6,11 +6,11 @@ ghost use Rattle.field_cases.specs.declared.nesting.Node.TheVariants as node;
 
 use bench::bench::Bench;
 use bench::single::Single;
+use composite_fields::pair::Pair;
+use composite_fields::spoiler::Spoiler;
 use field::field::Field;
 use field::hearing::Hearing;
 use field::lending::Lending;
-use composite_fields::pair::Pair;
-use composite_fields::spoiler::Spoiler;
 use protocol::refusal::Refusal;
 use record::Tag;
 

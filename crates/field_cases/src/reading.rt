@@ -5,10 +5,10 @@ ghost use Rattle.notation.specs.declared.error.NotationError.TheVariants.{Bytes,
 ghost use Rattle.field_cases.specs.Questions.{SpellsRow, first_word, behind_first, IsOneWord};
 
 use anyhow::bail;
-use record::{MEMORY_LENGTH, Tag};
-use notation::hexadecimal::{read_array, read_bytes};
 use notation::error::NotationError;
+use notation::hexadecimal::{read_array, read_bytes};
 use notation::words::{no_word, read_locks, read_parts, word};
+use record::{MEMORY_LENGTH, Tag};
 use std::alloc::Global;
 
 // The first bytes of a memory, whose others are 00.

@@ -1,11 +1,11 @@
 // The tags, and fields of each kind over them.
 use anyhow::Context;
 use bench::bench::Bench;
-use field::field::Field;
 use composite_fields::pair::Pair;
 use composite_fields::spoiler::Spoiler;
-use record::Tag;
+use field::field::Field;
 use notation::sample::numbered_tag;
+use record::Tag;
 use std::array;
 
 // The tags of each field: numbers 1 to 4 at places 0 to 3.

@@ -1,8 +1,8 @@
 // What a field hears, and what becomes of its tags.
 use field::field::{Field, ROOM};
 use field::hearing::Hearing;
-use protocol::refusal::Refusal;
 use notation::hexadecimal::Hex;
+use protocol::refusal::Refusal;
 use std::fmt;
 
 // How long each lone reply is here: eight bytes and a check value.

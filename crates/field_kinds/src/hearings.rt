@@ -1,11 +1,11 @@
 // Sends the same few frames to a bench, a pair and a spoiler over four tags each, and prints what each hears.
-use crate::transmissions::TRANSMISSIONS;
 use crate::building::{bench_over, crowd, pair_of, spoiler_of};
 use crate::heard::hear;
+use crate::transmissions::TRANSMISSIONS;
 use bench::single::Single;
-use two_fields::agreement::agree;
 use field::field::Field;
 use notation::encoding::make_frame;
+use two_fields::agreement::agree;
 
 // Sends a frame to a field, and prints what it hears.
 fn tell<F: Field>(

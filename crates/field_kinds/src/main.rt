@@ -1,11 +1,11 @@
 // Fields of different kinds over four tags: what each hears of the same frames, and one list of calls that two of them are given.
 #![tactic(auto)]
 
-mod transmissions;
 mod building;
 mod heard;
 mod hearings;
 mod showing;
+mod transmissions;
 mod twins;
 
 use std::process::ExitCode;

@@ -3,16 +3,16 @@
 use crate::building::{bench_over, crowd, pair_of, spoiler_of};
 use crate::showing::show_all;
 use bench::single::Single;
-use two_fields::agreement::agree;
-use two_fields::running::run;
 use field::field::ROOM;
 use field::lending::Lending;
 use history::call::Call;
 use history::workspace::Workspace;
 use record::Serial;
 use slice_vec::vec::SliceVec;
-use slot::lists::Lists;
 use slot::listed::{BLANK, ListedSlot};
+use slot::lists::Lists;
+use two_fields::agreement::agree;
+use two_fields::running::run;
 
 // SCROLL, which no tag answers before it is selected.
 const SCROLL: [u8; 3] = [0x09, 0x8f, 0x26];
@@ -68,10 +68,20 @@ fn run_both<L: Lending, R: Lending>(
     let (mut right_first, mut right_last) = (Storage::new(), Storage::new());
     let first = left_first.workspace(&[0b1010, 0b1100]);
     let last = left_last.workspace(&[0b0011, 0b0101]);
-    let left_workspaces: &mut [Workspace<'_>] = &mut [first, Workspace::bare(), Workspace::bare(), last];
+    let left_workspaces: &mut [Workspace<'_>] = &mut [
+        first,
+        Workspace::bare(),
+        Workspace::bare(),
+        last,
+    ];
     let first = right_first.workspace(&[0b0110, 0b1010]);
     let last = right_last.workspace(&[0b1001, 0b1010]);
-    let right_workspaces: &mut [Workspace<'_>] = &mut [first, Workspace::bare(), Workspace::bare(), last];
+    let right_workspaces: &mut [Workspace<'_>] = &mut [
+        first,
+        Workspace::bare(),
+        Workspace::bare(),
+        last,
+    ];
     run(left, right, &CALLS, left_workspaces, right_workspaces)?;
     println!(rt; "a bench of four tags")?;
     show_all(rt, left_workspaces)?;

@@ -2,8 +2,8 @@
 use field::field::Field;
 use slice_vec::vec::SliceVec;
 use slot::ending::Report;
-use slot::lists::Lists;
 use slot::listed::BLANK;
+use slot::lists::Lists;
 use std::io::Write;
 use sweep::sweep;
 

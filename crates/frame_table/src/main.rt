@@ -6,10 +6,10 @@ ghost use Rattle.protocol.specs.Commands.{layout, sizes};
 
 use frame::making::LONGEST_FRAME;
 use frame::opening::{Frame, open};
-use protocol::command::{COMMANDS, Command, Entry, OWN, PARAMETERS};
+use notation::encoding::make_frame;
 use notation::hexadecimal::Hex;
 use notation::sample::to_tag;
-use notation::encoding::make_frame;
+use protocol::command::{COMMANDS, Command, Entry, OWN, PARAMETERS};
 use std::alloc::{AllocError, Global};
 use std::fmt;
 use std::process::ExitCode;

@@ -2,5 +2,5 @@
 #![tactic(auto)]
 
 pub mod call;
-pub mod workspace;
 pub mod running;
+pub mod workspace;

@@ -51,7 +51,13 @@ fn meet<F: Field>(field: &mut F, call: Call<'_>, workspace: &mut Workspace<'_>)
     }
 }
 
-fn send_at<F: Field>(field: &mut F, frame: &[u8], row: u64, room: usize, workspace: &mut Workspace<'_>)
+fn send_at<F: Field>(
+    field: &mut F,
+    frame: &[u8],
+    row: u64,
+    room: usize,
+    workspace: &mut Workspace<'_>,
+)
     ensures { AfterCall F.Field (send frame.now row room) workspace.old workspace.new field.old field.new }
 {
     match transmit(field, frame, row, room) {
@@ -86,7 +92,12 @@ fn sweep_at<F: Field>(field: &mut F, workspace: &mut Workspace<'_>)
     ensures { AfterCall F.Field (sweep (setting workspace.old.coins.now workspace.old.budget workspace.old.lists))
         workspace.old workspace.new field.old field.new }
 {
-    match sweep(field, workspace.coins, workspace.budget, &mut workspace.lists) {
+    match sweep(
+        field,
+        workspace.coins,
+        workspace.budget,
+        &mut workspace.lists,
+    ) {
         Ok(report) => workspace.answer = Some(Answer::Swept(report)),
         Err(refusal) => workspace.answer = Some(Answer::Refused(refusal)),
     }

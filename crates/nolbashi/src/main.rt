@@ -3,10 +3,10 @@
 
 use anyhow::Context;
 use bench::bench::Bench;
-use slice_vec::vec::SliceVec;
-use slot::lists::Lists;
-use slot::listed::BLANK;
 use notation::sample::numbered_tag;
+use slice_vec::vec::SliceVec;
+use slot::listed::BLANK;
+use slot::lists::Lists;
 use std::io::Write;
 use std::process::ExitCode;
 use sweep::sweep;

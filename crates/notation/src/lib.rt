@@ -2,9 +2,9 @@
 // tag.
 #![tactic(auto)]
 
+pub mod encoding;
+pub mod error;
 pub mod hexadecimal;
 pub mod line;
-pub mod error;
 pub mod sample;
-pub mod encoding;
 pub mod words;

@@ -6,8 +6,8 @@ ghost use Rattle.notation.specs.Words.{SpellsBit, SpellsState, SpellsMark, Spell
 ghost use Rattle.notation.specs.Words.{ReadsNext, SpellsParts, IsNoParts};
 ghost use Rattle.notation.specs.declared.error.NotationError.TheVariants.{Bytes, Bit, Mark, Missing, Surplus};
 
-use crate::hexadecimal::{read_array, read_byte};
 use crate::error::NotationError;
+use crate::hexadecimal::{read_array, read_byte};
 use record::{MEMORY_LENGTH, State, Tag, WriteMark};
 use std::array;
 use std::str::SplitWhitespace;

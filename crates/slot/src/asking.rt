@@ -21,7 +21,12 @@ pub(crate) struct Received {
 }
 
 // Sends a command with parameters that fit it.
-pub(crate) fn ask<F: Field>(field: &mut F, command: Command, parameters: &[u8], row: u64) -> Received
+pub(crate) fn ask<F: Field>(
+    field: &mut F,
+    command: Command,
+    parameters: &[u8],
+    row: u64,
+) -> Received
     requires { length parameters.now + 3 ≡ length_of command }
     ensures sent { AfterSend F.Field (frame_of command parameters.now) row result.hearing field.old field.new }
     ensures serial { result.serial ≡

@@ -5,7 +5,7 @@ mod asking;
 pub mod counts;
 pub mod ending;
 pub mod kinds;
+pub mod listed;
 pub mod lists;
 mod opening;
-pub mod listed;
 pub mod working;

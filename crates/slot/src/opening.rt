@@ -12,9 +12,9 @@ ghost use Rattle.slot.specs.Slots.{heard_in, phase_of, phase_with, progress_of, 
 
 use crate::asking::{Received, ask};
 use crate::ending::{Stop, Stopped};
-use crate::kinds::{ClashSlot, LoneSlot, SilentSlot, Slot, Progress};
-use crate::lists::Lists;
+use crate::kinds::{ClashSlot, LoneSlot, Progress, SilentSlot, Slot};
 use crate::listed::ListedSlot;
+use crate::lists::Lists;
 use field::field::Field;
 use field::hearing::Hearing;
 use protocol::command::{Command, OWN};

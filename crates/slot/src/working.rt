@@ -15,7 +15,9 @@ ghost use Rattle.slot.specs.Slots.{progress_with};
 use crate::asking::{read, repeat};
 use crate::counts::Counts;
 use crate::ending::{Stop, Stopped};
-use crate::kinds::{ClashSlot, GivenUp, Continuation, LoneSlot, SilentSlot, Slot, Progress, Unsplit};
+use crate::kinds::{
+    ClashSlot, Continuation, GivenUp, LoneSlot, Progress, SilentSlot, Slot, Unsplit,
+};
 use crate::lists::Lists;
 use crate::opening::{coins_at, query, scroll, select};
 use field::declined::Declined;
@@ -85,7 +87,11 @@ impl ClashSlot {
 
 impl SilentSlot {
     /// Sends SCROLL for the next group that waits, or the closing REPEAT if none does.
-    pub fn leave<F: Field>(self, field: &mut F, lists: &mut Lists<'_>) -> Result<Continuation, Stopped>
+    pub fn leave<F: Field>(
+        self,
+        field: &mut F,
+        lists: &mut Lists<'_>,
+    ) -> Result<Continuation, Stopped>
         ensures rule { (coins : List ℕ) →
             Continues F.Field coins (at_silent self) (position_after result) field.old field.new lists.old lists.new }
         ensures behind { BothBehind lists.old lists.new }

@@ -7,8 +7,8 @@ use record::{MEMORY_LENGTH, Serial, Tag};
 use slice_vec::vec::SliceVec;
 use slot::counts::Counts;
 use slot::kinds::{Continuation, Slot, Unsplit};
-use slot::lists::Lists;
 use slot::listed::BLANK;
+use slot::lists::Lists;
 use slot::working::open;
 use std::io;
 use std::process::ExitCode;
@@ -29,7 +29,11 @@ fn new_tag(number: u8) -> Tag {
 }
 
 // Ends a slot, each kind in its way, and opens the next.
-fn work_slot<F: Field>(slot: Slot, field: &mut F, lists: &mut Lists<'_>) -> Result<Continuation, Unsplit> {
+fn work_slot<F: Field>(
+    slot: Slot,
+    field: &mut F,
+    lists: &mut Lists<'_>,
+) -> Result<Continuation, Unsplit> {
     match slot {
         Slot::Silent(slot) => Ok(slot.leave(field, lists)?),
         Slot::Lone(slot) => Ok(slot.read(field, lists)?.leave(field, lists)?),

@@ -1,7 +1,7 @@
 // What is sent.
-use protocol::command::Command;
-use notation::sample::numbered_serial;
 use notation::encoding::make_frame;
+use notation::sample::numbered_serial;
+use protocol::command::Command;
 use std::alloc::Global;
 
 #[derive(Clone, Copy)]

@@ -3,12 +3,12 @@ use crate::load::Load;
 use crate::tally::Tally;
 use anyhow::Context;
 use bench::bench::Bench;
-use field::field::{Field, ROOM};
 use composite_fields::pair::Pair;
+use field::field::{Field, ROOM};
+use notation::encoding::make_frame;
+use notation::sample::numbered_tag;
 use protocol::command::{Command, OWN};
 use record::Tag;
-use notation::sample::numbered_tag;
-use notation::encoding::make_frame;
 use std::alloc::Global;
 use std::array;
 

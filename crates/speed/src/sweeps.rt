@@ -3,12 +3,12 @@ use crate::random::Random;
 use crate::total::Total;
 use anyhow::Context;
 use bench::bench::Bench;
+use notation::sample::numbered_tag;
 use record::Serial;
 use slice_vec::vec::SliceVec;
 use slot::ending::Report;
-use slot::lists::Lists;
 use slot::listed::{BLANK, ListedSlot};
-use notation::sample::numbered_tag;
+use slot::lists::Lists;
 use std::array;
 use sweep::sweep;
 

@@ -9,8 +9,8 @@ ghost use Rattle.slot.specs.Calls.{setting, is_recorded};
 ghost use Rattle.sweep.specs.Effects.{is_due};
 ghost use Rattle.sweep.specs.Whole.{outcome_of, Swept};
 
-use field::field::Field;
 use composite_fields::spoiler::Spoiler;
+use field::field::Field;
 use protocol::refusal::Refusal;
 use slot::ending::Report;
 use slot::lists::Lists;

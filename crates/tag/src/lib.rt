@@ -17,7 +17,7 @@ ghost use Rattle.tag.specs.Steps.{has_serial, obeyed, answered, stepped, replied
 mod commands;
 
 use commands::{
-    reply_in_turn, is_matching, select, lock, qlock, query, read, read_eight, reset, scroll,
+    is_matching, lock, qlock, query, read, read_eight, reply_in_turn, reset, scroll, select,
     unselect_id_flag, unselect_ne, unselect_noid_flag, verify, write,
 };
 use frame::opening::{Frame, open};
@@ -117,7 +117,10 @@ fn obey(tag: &mut Tag, request: Request<'_>, coin: bool, permitted: Option<u8>) 
         (_, Request::ReadFlexible(target, length)) if has_serial(tag, target) => {
             read(tag, *target.address.part, *length.part)
         }
-        (_, Request::Verify(target)) if has_serial(tag, target) => verify(tag, *target.address.part),
+        (_, Request::Verify(target)) if has_serial(tag, target) => verify(
+            tag,
+            *target.address.part,
+        ),
         (_, Request::Write(target, mask, bytes)) if has_serial(tag, target) => {
             write(tag, *target.address.part, *mask.part, bytes.part)
         }

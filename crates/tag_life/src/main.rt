@@ -1,12 +1,12 @@
 // Shows the life of one tag: prints what it is sent, what it replies, and its record after that.
 #![tactic(auto)]
 
+use notation::encoding::{make_frame, write_reply};
+use notation::hexadecimal::Hex;
+use notation::sample::{sample_tag, to_tag};
 use protocol::command::{Command, OWN};
 use record::Tag;
 use reply::Reply;
-use notation::hexadecimal::Hex;
-use notation::sample::{sample_tag, to_tag};
-use notation::encoding::{make_frame, write_reply};
 use std::process::ExitCode;
 use tag::hear;
 

@@ -6,8 +6,8 @@ ghost use Rattle.two_fields.specs.Laws.{BothRan, Law};
 
 use field::field::Field;
 use history::call::Call;
-use history::workspace::Workspace;
 use history::running;
+use history::workspace::Workspace;
 use protocol::refusal::Refusal;
 
 /// Runs one list of calls on two fields, of which each has its own workspaces. A call that is refused belongs to the run,
