@@ -5,8 +5,7 @@ use Rattle.std.specs.List.{flat_map, AllByRecursion}
 use Rattle.protocol.specs.declared.command.Parameter.{Parameter}
 use Rattle.protocol.specs.declared.command.Parameter.TheVariants.{Serial, Address, Mask, Word, Data, Length, Ignored}
 use Rattle.frame.specs.declared.request.Span.{Span}
-use Rattle.frame.specs.Makings as makings
-use Rattle.frame.specs.Makings.{Making, unmade, made, writing}
+use Rattle.frame.specs.Makings.{Making, unmade, made, writing, buffer_after}
 use Rattle.frame.specs.Openings.{Opening, refused, opened, opening, parts_in}
 use Rattle.frame.specs.Parts.{Part, span_of, bytes_of}
 
@@ -25,7 +24,7 @@ shown_of code parts =
     code ∷ flat_map (λ p. offset_in (span_of p parts) ∷ length_in (span_of p parts) ∷ [])
     (Serial ∷ Address ∷ Mask ∷ Word ∷ Data ∷ Length ∷ Ignored ∷ [])
 
--- What is shown of what opening gave, in bytes with some room: its row, or a refusal, which is one of opening's or that
+-- What is shown of what opening gave, in bytes with some room: its bytes, or a refusal, which is one of opening's or that
 -- of too little room.
 abbrev pub showing : Opening → ℕ → Making
 showing (refused n) room = unmade n
@@ -34,7 +33,7 @@ showing (opened code c parts) room = writing (shown_of code parts) room
 -- A refusal by its number, and 0 for none.
 abbrev pub number_in : Making → ℕ
 number_in (unmade n) = n
-number_in (made row) = 0
+number_in (made shown) = 0
 
 abbrev pub status_of : Opening → ℕ → ℕ
 status_of o room = number_in (showing o room)
@@ -42,7 +41,7 @@ status_of o room = number_in (showing o room)
 -- What is shown stands at the front, and the bytes behind it are as they were, as where a frame is made. A refusal
 -- changes nothing.
 abbrev pub shown_after : Opening → List ℕ → List ℕ
-shown_after o before = makings.leaving (showing o (length before)) before
+shown_after o before = buffer_after (showing o (length before)) before
 
 -- Offsets and lengths are bytes.
 abbrev pub Small : List Part → Type 0
@@ -60,8 +59,8 @@ offset_place Ignored = 13
 
 -- The bytes of a frame that the shown bytes select for a parameter: as many as its length, from its offset on.
 abbrev pub selected_by : List ℕ → Parameter → List ℕ → List ℕ
-selected_by row p frame = take (slice_index row (offset_place p + 1)) (drop (slice_index row (offset_place p)) frame)
+selected_by shown p frame = take (slice_index shown (offset_place p + 1)) (drop (slice_index shown (offset_place p)) frame)
 
 -- What is shown selects just the bytes of each parameter in a frame, and none for a parameter that is not there.
 abbrev pub Selects : List ℕ → List ℕ → Type 0
-Selects row frame = (p : Parameter) → selected_by row p frame ≡ bytes_of p (parts_in (opening frame))
+Selects shown frame = (p : Parameter) → selected_by shown p frame ≡ bytes_of p (parts_in (opening frame))

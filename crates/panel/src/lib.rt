@@ -54,7 +54,7 @@ fn show(frame: &[u8], shown: &mut [u8]) -> Result<(), Refusal>
     if shown.len() < SHOWN {
         return Err(Refusal::Buffer);
     }
-    shown[..SHOWN].copy_from_slice(&opened.row());
+    shown[..SHOWN].copy_from_slice(&opened.bytes());
     Ok(())
 }
 
@@ -68,7 +68,7 @@ struct Shown<'a> {
 impl Shown<'_> {
     // The code, then each parameter's offset and length. They are written out, since so the list is proved with nothing
     // to say of a loop, and reads as the header does.
-    fn row(&self) -> [u8; SHOWN]
+    fn bytes(&self) -> [u8; SHOWN]
         ensures { result ≡ shown_of (code_of_frame self.now.frame) (parts_of (request_of_frame self.now.frame)) }
     {
         let (serial, serial_length) = self.pair(Parameter::Serial);

@@ -28,7 +28,7 @@ pub order-scroll : order_in (opening scroll) ≡ orders.scroll
 unfolding scroll opening is_sealed without_check_value parameters_of command_with_code moved_up bit_taken bits byte_taken sealed
 order-scroll = refl
 
-pub order-again : order_in (opening repeat) ≡ orders.again
+pub order-again : order_in (opening repeat) ≡ orders.repeat
 unfolding repeat opening is_sealed without_check_value parameters_of command_with_code moved_up bit_taken bits byte_taken sealed
 order-again = refl
 

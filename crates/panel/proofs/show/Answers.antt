@@ -5,5 +5,5 @@ use Rattle.panel.proofs.show.Goals as goal
 -- The list has its 15 bytes.
 pub copy_from_slice-requires : goal.copy_from_slice-requires
 copy_from_slice-requires c =
-    let size : length c.row.result ≡ 15 = ap length c.row.ensures in
+    let size : length c.bytes.result ≡ 15 = ap length c.bytes.ensures in
     simp length-take (omega arith)
