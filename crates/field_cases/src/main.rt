@@ -17,7 +17,7 @@ use crate::cases::answer_cases;
 use std::process::ExitCode;
 
 const USAGE: &str = "usage: field_cases < QUESTIONS
-Answers questions about fields and sweeps of them, one to a line of standard input, in plays:
+Answers questions about fields and sweeps of them, one to a line of standard input, in cases:
     tag STATE FLAG COUNTER MARK PERMISSION LOCKS MEMORY
     find SERIAL
     field NESTING, which is bench PLACES, single, pair LEFT RIGHT or spoiler PERIOD BELOW

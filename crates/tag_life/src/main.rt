@@ -11,7 +11,7 @@ use std::process::ExitCode;
 use tag::hear;
 
 const USAGE: &str = "usage: tag_life
-Plays the life of one tag: prints what it is sent, what it replies, and its record after that.";
+Shows the life of one tag: prints what it is sent, what it replies, and its record after that.";
 
 // How this tag's coin always falls.
 const COIN: bool = true;
