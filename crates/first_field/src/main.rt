@@ -11,6 +11,10 @@ use anyhow::Context;
 use bench::bench::Bench;
 use field::field::Field;
 use notation::sample::{numbered_serial, numbered_tag};
+use std::process::ExitCode;
+
+const USAGE: &str = "usage: first_field
+Sweeps a bench of two tags and prints the sheet, and then does it again through a kind of field of its own.";
 
 // After a gap of so many microseconds each tag is READY again.
 const GAP: u32 = 250;
@@ -33,6 +37,10 @@ fn run(rt: &HostRuntime) -> anyhow::Result<()> {
     Ok(())
 }
 
-fn main(rt: HostRuntime) -> anyhow::Result<()> {
-    run(&rt)
+fn main(rt: HostRuntime) -> anyhow::Result<ExitCode> {
+    if let Some(code) = usage::answer(&rt, USAGE)? {
+        return Ok(code);
+    }
+    run(&rt)?;
+    Ok(ExitCode::SUCCESS)
 }
