@@ -109,29 +109,29 @@ module _ (m : List ℕ) (l : List Bool) (i : Bool) (c : ℕ) (k : WriteMark) (p 
   outcome-met Inventoried = refl
 
   -- SELECT, by whether the tag matches.
-  abbrev selected : State → Bool → Tag
-  selected s b = cond (is_selected s b) (selected (prepared (of_state s))) (prepared (of_state s))
+  abbrev after_select : State → Bool → Tag
+  after_select s b = cond (is_selected s b) (selected (prepared (of_state s))) (prepared (of_state s))
 
   selected_outcome : (s : State) (b : Bool)
-      → outcome (selected s b) ≡ record (cond (is_selected s b) (dealt_with (record (of_state s) { counter = 0 })) (of_state s)) { mark = Clear; permission = None }
+      → outcome (after_select s b) ≡ record (cond (is_selected s b) (dealt_with (record (of_state s) { counter = 0 })) (of_state s)) { mark = Clear; permission = None }
   selected_outcome Ready true = refl
   selected_outcome Ready false = refl
   selected_outcome Singulation b = refl
   selected_outcome Inventoried b = refl
 
-  selected_active : (s : State) (b : Bool) → is_active (selected s b) ≡ is_selected s b
+  selected_active : (s : State) (b : Bool) → is_active (after_select s b) ≡ is_selected s b
   selected_active Ready true = refl
   selected_active Ready false = refl
   selected_active Singulation b = refl
   selected_active Inventoried b = refl
 
-  selected_fit : (s : State) (b : Bool) → Fit 0 (selected s b)
+  selected_fit : (s : State) (b : Bool) → Fit 0 (after_select s b)
   selected_fit Ready true = record { mark = fallen_twice k; within = λ e. omega arith }
   selected_fit Ready false = record { mark = fallen_twice k; within = inactive }
   selected_fit Singulation b = record { mark = fallen_twice k; within = λ e. omega arith }
   selected_fit Inventoried b = record { mark = fallen_twice k; within = inactive }
 
-  selected_voiced : (s : State) (b : Bool) → cond (is_selected s b) (Some (serial_of (of_state s))) None ≡ voiced (selected s b)
+  selected_voiced : (s : State) (b : Bool) → cond (is_selected s b) (Some (serial_of (of_state s))) None ≡ voiced (after_select s b)
   selected_voiced Ready true = refl
   selected_voiced Ready false = refl
   selected_voiced Singulation b = refl

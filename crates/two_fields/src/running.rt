@@ -57,5 +57,5 @@ fn run_on<F: Field>(field: &mut F, calls: &[Call<'_>], workspaces: &mut [Workspa
     requires { length calls.now ≤ length workspaces.old }
     ensures { Ran F.Field calls.now workspaces.old workspaces.new field.old field.new }
 {
-    let _ = playing::run(field, calls, workspaces);
+    let _ = running::run(field, calls, workspaces);
 }
