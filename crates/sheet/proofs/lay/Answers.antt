@@ -14,7 +14,7 @@ returns c =
     let start = c.new-front.result in
     let begun : Filled start start [] = record { bytes = sym (append-nil (items_of start)); behind = record { storage = refl; room = refl; lender = refl } } in
     let filled : Filled start c.print.new.paper bytes = c.in_ok-print.ensures.shows refl start [] begun in
-    let rows : items_of c.print.new.paper ≡ bytes = filled.bytes ∙ ap (λ (xs : List ℕ). xs ++ bytes) n.rows in
+    let rows : items_of c.print.new.paper ≡ bytes = filled.bytes ∙ ap (λ (xs : List ℕ). xs ++ bytes) n.items in
     let text : c.print.new.paper.storage.now ≡ bytes ++ drop (length bytes) c.args.buffer.now =
     storage_filled start c.print.new.paper filled.behind
     ∙ ap₂ (λ (xs ys : List ℕ). xs ++ drop (length xs) ys) rows (ap (λ (m : MutBor (List ℕ)). m.now) n.storage) in
