@@ -1,12 +1,12 @@
 pub mod Bench
+pub mod CompositeFields
 pub mod Crc
 pub mod Field
 pub mod Frame
-pub mod Layers
+pub mod Notation
 pub mod Protocol
 pub mod Record
 pub mod Reply
 pub mod Sheet
-pub mod Spelling
 pub mod Sweep
 pub mod Tag

@@ -11,7 +11,7 @@ pub mod records;
 pub mod replies;
 pub mod sends;
 pub mod sheets;
-pub mod spellings;
+pub mod notations;
 pub mod steps;
 pub mod sweeps;
 pub mod tables;

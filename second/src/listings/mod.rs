@@ -1,20 +1,20 @@
 //! Worked cases at the limits, each kind a proposition for the prover: whole files of definitions, one for each subject.
 
 mod bench;
+mod composite_fields;
 mod crc;
 mod crowd;
 mod field;
 mod field_cases;
 mod frame;
-mod layers;
 mod layout;
 mod listing;
+mod notation;
 mod panel;
 mod protocol;
 mod record;
 mod reply;
 mod sheet;
-mod spelling;
 mod sweep;
 mod tag;
 mod term;
@@ -24,15 +24,15 @@ mod words;
 fn subjects() -> [(&'static str, String); 13] {
     [
         ("Bench", bench::file()),
+        ("CompositeFields", composite_fields::file()),
         ("Crc", crc::file()),
         ("Field", field::file()),
         ("Frame", frame::file()),
-        ("Layers", layers::file()),
+        ("Notation", notation::file()),
         ("Protocol", protocol::file()),
         ("Record", record::file()),
         ("Reply", reply::file()),
         ("Sheet", sheet::file()),
-        ("Spelling", spelling::file()),
         ("Sweep", sweep::file()),
         ("Tag", tag::file()),
         ("Words", words::file()),

@@ -296,7 +296,11 @@ fn deep_sweeps() -> Listing {
     let row_of = |&(budget, room, groups): &(u16, usize, usize)| {
         let setting = Setting(&[0], budget, room, 0);
         let swept = sweep(&mut bench(ready(&[1, 2])), setting);
-        row(&[setting_term(setting), number(groups), action(&swept, groups)])
+        row(&[
+            setting_term(setting),
+            number(groups),
+            action(&swept, groups),
+        ])
     };
     Listing {
         about: "What a sweep is given, how many groups wait behind a clash, and what the reader does: 7 comes before 8 and 9.",

@@ -11,10 +11,10 @@ use Rattle.notation.specs.Hexadecimal.{has_small}
 use Rattle.notation.specs.Words.{locks_of, SpellsLocks}
 use Rattle.protocol.specs.declared.refusal.Refusal.TheVariants as refusal
 use Rattle.notation.proofs.Capitals.{spells_decoded, spells_sized}
-use Rattle.worked_cases.specs.Spelling.{ShownBytes, SmallLetters, SpeltBytes, SpeltArrays, SpeltSingle, SpeltBits}
-use Rattle.worked_cases.specs.Spelling.{SpeltMarks, SpeltPermissions, SpeltLocks, ErrorsListed, ErrorsOfHex}
-use Rattle.worked_cases.specs.Spelling.{LinesListed, NumberedTags, SampleListed, FramesListed, NoFramesListed}
-use Rattle.worked_cases.specs.Spelling.{RepliesListed}
+use Rattle.worked_cases.specs.Notation.{ShownBytes, SmallLetters, SpeltBytes, SpeltArrays, SpeltSingle, SpeltBits}
+use Rattle.worked_cases.specs.Notation.{SpeltMarks, SpeltPermissions, SpeltLocks, ErrorsListed, ErrorsOfHex}
+use Rattle.worked_cases.specs.Notation.{LinesListed, NumberedTags, SampleListed, FramesListed, NoFramesListed}
+use Rattle.worked_cases.specs.Notation.{RepliesListed}
 
 abbrev decoded : List ℕ → List ℕ
 decoded text = result_unwrap_or (decode_of text) []

@@ -1,5 +1,5 @@
 -- The listings, computed. Assumes nothing.
-use Rattle.worked_cases.specs.Layers.{PairsMade, RowsBehind, LonesCounted, HeardSpoiled}
+use Rattle.worked_cases.specs.CompositeFields.{PairsMade, RowsBehind, LonesCounted, HeardSpoiled}
 
 pub pairs_made : PairsMade
 unfolding PairsMade

@@ -1,107 +1,107 @@
 // What texts spell, how bytes are shown, and what is sent.
-ghost use Rattle.worked_cases.specs.Spelling.{ShownBytes, SmallLetters, SpeltBytes, SpeltArrays, SpeltSingle};
-ghost use Rattle.worked_cases.specs.Spelling.{SpeltBits, SpeltMarks, SpeltPermissions, SpeltLocks, ErrorsListed};
-ghost use Rattle.worked_cases.specs.Spelling.{ErrorsOfHex, LinesListed, NumberedTags, SampleListed, FramesListed};
-ghost use Rattle.worked_cases.specs.Spelling.{NoFramesListed, RepliesListed};
+ghost use Rattle.worked_cases.specs.Notation.{ShownBytes, SmallLetters, SpeltBytes, SpeltArrays, SpeltSingle};
+ghost use Rattle.worked_cases.specs.Notation.{SpeltBits, SpeltMarks, SpeltPermissions, SpeltLocks, ErrorsListed};
+ghost use Rattle.worked_cases.specs.Notation.{ErrorsOfHex, LinesListed, NumberedTags, SampleListed, FramesListed};
+ghost use Rattle.worked_cases.specs.Notation.{NoFramesListed, RepliesListed};
 
 /// How bytes are shown.
-#[tactic(auto, using(crate::proofs::Spelling::shown_bytes))]
+#[tactic(auto, using(crate::proofs::Notation::shown_bytes))]
 pub fn bytes_as_text()
     ensures { ShownBytes }
 {}
 
 /// Whether a text has small letters.
-#[tactic(auto, using(crate::proofs::Spelling::small_letters))]
+#[tactic(auto, using(crate::proofs::Notation::small_letters))]
 pub fn texts_with_small_letters()
     ensures { SmallLetters }
 {}
 
 /// Texts that spell bytes.
-#[tactic(auto, using(crate::proofs::Spelling::spelt_bytes))]
+#[tactic(auto, using(crate::proofs::Notation::spelt_bytes))]
 pub fn texts_of_bytes()
     ensures { SpeltBytes }
 {}
 
 /// Texts that spell as many bytes as are wanted.
-#[tactic(auto, using(crate::proofs::Spelling::spelt_arrays))]
+#[tactic(auto, using(crate::proofs::Notation::spelt_arrays))]
 pub fn texts_of_so_many_bytes()
     ensures { SpeltArrays }
 {}
 
 /// Texts that spell one byte.
-#[tactic(auto, using(crate::proofs::Spelling::spelt_single))]
+#[tactic(auto, using(crate::proofs::Notation::spelt_single))]
 pub fn texts_of_one_byte()
     ensures { SpeltSingle }
 {}
 
 /// Texts that spell a bit.
-#[tactic(auto, using(crate::proofs::Spelling::spelt_bits))]
+#[tactic(auto, using(crate::proofs::Notation::spelt_bits))]
 pub fn texts_of_a_bit()
     ensures { SpeltBits }
 {}
 
 /// Texts that spell a write mark.
-#[tactic(auto, using(crate::proofs::Spelling::spelt_marks))]
+#[tactic(auto, using(crate::proofs::Notation::spelt_marks))]
 pub fn texts_of_a_mark()
     ensures { SpeltMarks }
 {}
 
 /// Texts that spell a permission.
-#[tactic(auto, using(crate::proofs::Spelling::spelt_permissions))]
+#[tactic(auto, using(crate::proofs::Notation::spelt_permissions))]
 pub fn texts_of_a_permission()
     ensures { SpeltPermissions }
 {}
 
 /// Texts that spell locks.
-#[tactic(auto, using(crate::proofs::Spelling::spelt_locks))]
+#[tactic(auto, using(crate::proofs::Notation::spelt_locks))]
 pub fn texts_of_locks()
     ensures { SpeltLocks }
 {}
 
 /// What is printed of each error.
-#[tactic(auto, using(crate::proofs::Spelling::errors_listed))]
+#[tactic(auto, using(crate::proofs::Notation::errors_listed))]
 pub fn printed_errors()
     ensures { ErrorsListed }
 {}
 
 /// What the errors of reading hexadecimal become.
-#[tactic(auto, using(crate::proofs::Spelling::errors_of_hex))]
+#[tactic(auto, using(crate::proofs::Notation::errors_of_hex))]
 pub fn errors_of_hexadecimal()
     ensures { ErrorsOfHex }
 {}
 
 /// What is printed of the number of a line.
-#[tactic(auto, using(crate::proofs::Spelling::lines_listed))]
+#[tactic(auto, using(crate::proofs::Notation::lines_listed))]
 pub fn printed_lines()
     ensures { LinesListed }
 {}
 
 /// The tags that the programs show, by their numbers.
-#[tactic(auto, using(crate::proofs::Spelling::numbered_tags))]
+#[tactic(auto, using(crate::proofs::Notation::numbered_tags))]
 pub fn tags_by_number()
     ensures { NumberedTags }
 {}
 
 /// The tag that is shown on its own.
-#[tactic(auto, using(crate::proofs::Spelling::sample_listed))]
+#[tactic(auto, using(crate::proofs::Notation::sample_listed))]
 pub fn sample()
     ensures { SampleListed }
 {}
 
 /// The frame of a code and parameters.
-#[tactic(auto, using(crate::proofs::Spelling::frames_listed))]
+#[tactic(auto, using(crate::proofs::Notation::frames_listed))]
 pub fn frames_to_send()
     ensures { FramesListed }
 {}
 
 /// The error where a code and parameters make no frame.
-#[tactic(auto, using(crate::proofs::Spelling::no_frames_listed))]
+#[tactic(auto, using(crate::proofs::Notation::no_frames_listed))]
 pub fn no_frames_to_send()
     ensures { NoFramesListed }
 {}
 
 /// The bytes of a reply.
-#[tactic(auto, using(crate::proofs::Spelling::replies_listed))]
+#[tactic(auto, using(crate::proofs::Notation::replies_listed))]
 pub fn replies_to_send()
     ensures { RepliesListed }
 {}
