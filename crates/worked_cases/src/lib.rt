@@ -6,12 +6,12 @@
 pub mod checks;
 pub mod commands;
 pub mod frames;
+pub mod notations;
 pub mod pairs;
 pub mod records;
 pub mod replies;
 pub mod sends;
 pub mod sheets;
-pub mod notations;
 pub mod steps;
 pub mod sweeps;
 pub mod tables;

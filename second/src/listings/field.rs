@@ -24,7 +24,8 @@ use Rattle.record.specs.declared.State.TheVariants.{Ready, Singulation, Inventor
 use Rattle.record.specs.declared.Tag.{Tag}
 use Rattle.field.specs.declared.hearing.Hearing.{Hearing}
 use Rattle.field.specs.declared.hearing.Hearing.TheVariants.{Silence, Lone, Clash}
-use Rattle.field.specs.Airs.{Air, silent, one, many, mixed, hearing_number, hearing_name, MayHear, plain_hearing, together}
+use Rattle.field.specs.Airs.{Air, silent, one, many, mixed, hearing_number, hearing_name, MayHear}
+use Rattle.field.specs.Airs.{plain_hearing, together}
 use Rattle.field.specs.Sends.{coin_at, on_air, is_short, tags_after_send, buffer_after_send}
 use Rattle.worked_cases.specs.Words.{bytes, used, numbered, numbered_from}
 
