@@ -97,7 +97,7 @@ MixedAirs =
 -- What is on the air, what is heard of it by a bench or by a spoiler of all, and what a bench hears.
 unfoldable pub HeardAirs : Type 0
 HeardAirs =
-    AllByRecursion {X = Air × Hearing × Hearing} (λ (air, heard, plain). MayHear air heard × (plain_hearing air ≡ plain))
+    AllByRecursion {X = Air × Hearing × Hearing} (λ (air, any, plain). MayHear air any × (plain_hearing air ≡ plain))
     ((silent, Silence, Silence) ∷ (one (replicate 7 0x00 ++ bytes "01DEE0"), Lone, Lone)
     ∷ (one (replicate 7 0x00 ++ bytes "01DEE0"), Clash, Lone) ∷ (many, Clash, Clash) ∷ [])
 

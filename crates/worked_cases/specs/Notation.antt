@@ -131,7 +131,7 @@ FramesListed =
 -- Codes with parameters that make no frame, and the error of each.
 unfoldable pub NoFramesListed : Type 0
 NoFramesListed =
-    AllByRecursion {X = ℕ × String × NotationError} (λ (code, parameters, error). IsNoFrame code (bytes parameters) error)
+    AllByRecursion {X = ℕ × String × NotationError} (λ (code, rest, error). IsNoFrame code (bytes rest) error)
     ((0x01, "", notation_error.Refused refusal.Code) ∷ (0x09, "30", notation_error.Refused refusal.Length)
     ∷ (0x1b, "303132333435363738393A3B3C3D3E", notation_error.Refused refusal.Length) ∷ [])
 

@@ -184,7 +184,7 @@ fn heard_airs() -> Listing {
     Listing {
         about: "What is on the air, what is heard of it by a bench or by a spoiler of all, and what a bench hears.",
         name: "HeardAirs",
-        law: "{X = Air × Hearing × Hearing} (λ (air, heard, plain). MayHear air heard × (plain_hearing air ≡ plain))".into(),
+        law: "{X = Air × Hearing × Hearing} (λ (air, any, plain). MayHear air any × (plain_hearing air ≡ plain))".into(),
         rows,
     }
 }

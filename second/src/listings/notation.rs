@@ -324,7 +324,7 @@ fn no_frames() -> Listing {
     Listing {
         about: "Codes with parameters that make no frame, and the error of each.",
         name: "NoFramesListed",
-        law: "{X = ℕ × String × NotationError} (λ (code, parameters, error). IsNoFrame code (bytes parameters) error)".into(),
+        law: "{X = ℕ × String × NotationError} (λ (code, rest, error). IsNoFrame code (bytes rest) error)".into(),
         rows: [(0x01, 0), (0x09, 1), (0x1B, 15)].map(refused).to_vec(),
     }
 }

@@ -20,7 +20,8 @@ use Rattle.protocol.specs.declared.command.Parameter.{Parameter}
 use Rattle.protocol.specs.declared.command.Parameter.TheVariants.{Serial, Address, Mask, Word, Data, Length, Ignored}
 use Rattle.protocol.specs.declared.refusal.Refusal.{Refusal}
 use Rattle.protocol.specs.declared.refusal.Refusal.TheVariants as refusal
-use Rattle.protocol.specs.Commands.{code_of, layout, size_of, length_of, commands, command_with_code, entry_of, first_entry}
+use Rattle.protocol.specs.Commands.{code_of, layout, size_of, length_of, commands}
+use Rattle.protocol.specs.Commands.{command_with_code, entry_of, first_entry}
 use Rattle.protocol.specs.Names.{command_name, parameter_name, refusal_name}
 use Rattle.protocol.specs.Refusals.{number_of}
 ";
