@@ -1,20 +1,20 @@
 // The check value.
 ghost use Rattle.worked_cases.specs.Crc.{BitsTaken, BytesTaken, SealedMessages};
 
-/// The register after a bit.
+// The register after a bit.
 #[tactic(auto, using(crate::proofs::Crc::bits_taken))]
-pub fn register_bits()
+fn register_bits()
     ensures { BitsTaken }
 {}
 
-/// The register after a byte.
+// The register after a byte.
 #[tactic(auto, using(crate::proofs::Crc::bytes_taken))]
-pub fn register_bytes()
+fn register_bytes()
     ensures { BytesTaken }
 {}
 
-/// The check value of a message, and the message with it behind.
+// The check value of a message, and the message with it behind.
 #[tactic(auto, using(crate::proofs::Crc::sealed_messages))]
-pub fn messages()
+fn messages()
     ensures { SealedMessages }
 {}

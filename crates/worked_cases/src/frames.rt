@@ -1,26 +1,26 @@
 // Opening and making.
 ghost use Rattle.worked_cases.specs.Frame.{OpenedFrames, RefusedFrames, MadeFrames, LaidBytes};
 
-/// What opening shows of a frame of each command.
+// What opening shows of a frame of each command.
 #[tactic(auto, using(crate::proofs::Frame::opened_frames))]
-pub fn openings()
+fn openings()
     ensures { OpenedFrames }
 {}
 
-/// By which refusal a frame does not open.
+// By which refusal a frame does not open.
 #[tactic(auto, using(crate::proofs::Frame::refused_frames))]
-pub fn refusals()
+fn refusals()
     ensures { RefusedFrames }
 {}
 
-/// What making answers, and leaves in the buffer.
+// What making answers, and leaves in the buffer.
 #[tactic(auto, using(crate::proofs::Frame::made_frames))]
-pub fn makings()
+fn makings()
     ensures { MadeFrames }
 {}
 
-/// Bytes laid over a buffer.
+// Bytes laid over a buffer.
 #[tactic(auto, using(crate::proofs::Frame::laid_bytes))]
-pub fn bytes_laid_over()
+fn bytes_laid_over()
     ensures { LaidBytes }
 {}

@@ -3,15 +3,15 @@
 // on every row, give what the row says.
 #![tactic(auto)]
 
-pub mod checks;
-pub mod commands;
-pub mod frames;
-pub mod notations;
-pub mod pairs;
-pub mod records;
-pub mod replies;
-pub mod sends;
-pub mod sheets;
-pub mod steps;
-pub mod sweeps;
-pub mod tables;
+mod checks;
+mod commands;
+mod frames;
+mod notations;
+mod pairs;
+mod records;
+mod replies;
+mod sends;
+mod sheets;
+mod steps;
+mod sweeps;
+mod tables;

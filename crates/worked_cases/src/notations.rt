@@ -4,104 +4,104 @@ ghost use Rattle.worked_cases.specs.Notation.{SpeltBits, SpeltMarks, SpeltPermis
 ghost use Rattle.worked_cases.specs.Notation.{ErrorsOfHex, LinesListed, NumberedTags, SampleListed, FramesListed};
 ghost use Rattle.worked_cases.specs.Notation.{NoFramesListed, RepliesListed};
 
-/// How bytes are shown.
+// How bytes are shown.
 #[tactic(auto, using(crate::proofs::Notation::shown_bytes))]
-pub fn bytes_as_text()
+fn bytes_as_text()
     ensures { ShownBytes }
 {}
 
-/// Whether a text has small letters.
+// Whether a text has small letters.
 #[tactic(auto, using(crate::proofs::Notation::small_letters))]
-pub fn texts_with_small_letters()
+fn texts_with_small_letters()
     ensures { SmallLetters }
 {}
 
-/// Texts that spell bytes.
+// Texts that spell bytes.
 #[tactic(auto, using(crate::proofs::Notation::spelt_bytes))]
-pub fn texts_of_bytes()
+fn texts_of_bytes()
     ensures { SpeltBytes }
 {}
 
-/// Texts that spell as many bytes as are wanted.
+// Texts that spell as many bytes as are wanted.
 #[tactic(auto, using(crate::proofs::Notation::spelt_arrays))]
-pub fn texts_of_so_many_bytes()
+fn texts_of_so_many_bytes()
     ensures { SpeltArrays }
 {}
 
-/// Texts that spell one byte.
+// Texts that spell one byte.
 #[tactic(auto, using(crate::proofs::Notation::spelt_single))]
-pub fn texts_of_one_byte()
+fn texts_of_one_byte()
     ensures { SpeltSingle }
 {}
 
-/// Texts that spell a bit.
+// Texts that spell a bit.
 #[tactic(auto, using(crate::proofs::Notation::spelt_bits))]
-pub fn texts_of_a_bit()
+fn texts_of_a_bit()
     ensures { SpeltBits }
 {}
 
-/// Texts that spell a write mark.
+// Texts that spell a write mark.
 #[tactic(auto, using(crate::proofs::Notation::spelt_marks))]
-pub fn texts_of_a_mark()
+fn texts_of_a_mark()
     ensures { SpeltMarks }
 {}
 
-/// Texts that spell a permission.
+// Texts that spell a permission.
 #[tactic(auto, using(crate::proofs::Notation::spelt_permissions))]
-pub fn texts_of_a_permission()
+fn texts_of_a_permission()
     ensures { SpeltPermissions }
 {}
 
-/// Texts that spell locks.
+// Texts that spell locks.
 #[tactic(auto, using(crate::proofs::Notation::spelt_locks))]
-pub fn texts_of_locks()
+fn texts_of_locks()
     ensures { SpeltLocks }
 {}
 
-/// What is printed of each error.
+// What is printed of each error.
 #[tactic(auto, using(crate::proofs::Notation::errors_listed))]
-pub fn printed_errors()
+fn printed_errors()
     ensures { ErrorsListed }
 {}
 
-/// What the errors of reading hexadecimal become.
+// What the errors of reading hexadecimal become.
 #[tactic(auto, using(crate::proofs::Notation::errors_of_hex))]
-pub fn errors_of_hexadecimal()
+fn errors_of_hexadecimal()
     ensures { ErrorsOfHex }
 {}
 
-/// What is printed of the number of a line.
+// What is printed of the number of a line.
 #[tactic(auto, using(crate::proofs::Notation::lines_listed))]
-pub fn printed_lines()
+fn printed_lines()
     ensures { LinesListed }
 {}
 
-/// The tags that the programs show, by their numbers.
+// The tags that the programs show, by their numbers.
 #[tactic(auto, using(crate::proofs::Notation::numbered_tags))]
-pub fn tags_by_number()
+fn tags_by_number()
     ensures { NumberedTags }
 {}
 
-/// The tag that is shown on its own.
+// The tag that is shown on its own.
 #[tactic(auto, using(crate::proofs::Notation::sample_listed))]
-pub fn sample()
+fn sample()
     ensures { SampleListed }
 {}
 
-/// The frame of a code and parameters.
+// The frame of a code and parameters.
 #[tactic(auto, using(crate::proofs::Notation::frames_listed))]
-pub fn frames_to_send()
+fn frames_to_send()
     ensures { FramesListed }
 {}
 
-/// The error where a code and parameters make no frame.
+// The error where a code and parameters make no frame.
 #[tactic(auto, using(crate::proofs::Notation::no_frames_listed))]
-pub fn no_frames_to_send()
+fn no_frames_to_send()
     ensures { NoFramesListed }
 {}
 
-/// The bytes of a reply.
+// The bytes of a reply.
 #[tactic(auto, using(crate::proofs::Notation::replies_listed))]
-pub fn replies_to_send()
+fn replies_to_send()
     ensures { RepliesListed }
 {}

@@ -2,56 +2,56 @@
 ghost use Rattle.worked_cases.specs.Record.{NewTags, Addresses, Selections, Comparisons, Storings, Marks, States};
 ghost use Rattle.worked_cases.specs.Record.{Gaps, Likenesses};
 
-/// A new tag, and its serial number.
+// A new tag, and its serial number.
 #[tactic(auto, using(crate::proofs::Record::new_tags))]
-pub fn tags_when_new()
+fn tags_when_new()
     ensures { NewTags }
 {}
 
-/// The byte and the lock at an address.
+// The byte and the lock at an address.
 #[tactic(auto, using(crate::proofs::Record::addresses))]
-pub fn bytes_and_locks()
+fn bytes_and_locks()
     ensures { Addresses }
 {}
 
-/// What a mask selects.
+// What a mask selects.
 #[tactic(auto, using(crate::proofs::Record::selections))]
-pub fn bits_of_masks()
+fn bits_of_masks()
     ensures { Selections }
 {}
 
-/// Comparing under a mask.
+// Comparing under a mask.
 #[tactic(auto, using(crate::proofs::Record::comparisons))]
-pub fn masked_comparisons()
+fn masked_comparisons()
     ensures { Comparisons }
 {}
 
-/// Storing under a mask.
+// Storing under a mask.
 #[tactic(auto, using(crate::proofs::Record::storings))]
-pub fn masked_storings()
+fn masked_storings()
     ensures { Storings }
 {}
 
-/// The write mark: its number, its fall, and whether it is WRITE_OK.
+// The write mark: its number, its fall, and whether it is WRITE_OK.
 #[tactic(auto, using(crate::proofs::Record::marks))]
-pub fn write_marks()
+fn write_marks()
     ensures { Marks }
 {}
 
-/// The states by their names.
+// The states by their names.
 #[tactic(auto, using(crate::proofs::Record::states))]
-pub fn state_names()
+fn state_names()
     ensures { States }
 {}
 
-/// A tag after a gap.
+// A tag after a gap.
 #[tactic(auto, using(crate::proofs::Record::gaps))]
-pub fn gaps_of_one()
+fn gaps_of_one()
     ensures { Gaps }
 {}
 
-/// Whether two tags are alike.
+// Whether two tags are alike.
 #[tactic(auto, using(crate::proofs::Record::likenesses))]
-pub fn alike_or_not()
+fn alike_or_not()
     ensures { Likenesses }
 {}

@@ -1,14 +1,14 @@
 // Replies.
 ghost use Rattle.worked_cases.specs.Reply.{Stretches, WrittenReplies};
 
-/// Bytes of a memory from an address on, beyond its end too.
+// Bytes of a memory from an address on, beyond its end too.
 #[tactic(auto, using(crate::proofs::Reply::stretches))]
-pub fn bytes_of_memories()
+fn bytes_of_memories()
     ensures { Stretches }
 {}
 
-/// What writing a reply answers, and leaves in the buffer.
+// What writing a reply answers, and leaves in the buffer.
 #[tactic(auto, using(crate::proofs::Reply::written_replies))]
-pub fn writing()
+fn writing()
     ensures { WrittenReplies }
 {}

@@ -1,20 +1,20 @@
 // Printed sheets.
 ghost use Rattle.worked_cases.specs.Sheet.{Columns, SheetsPrinted, SheetRooms};
 
-/// A number in its column.
+// A number in its column.
 #[tactic(auto, using(crate::proofs::Sheet::columns_listed))]
-pub fn numbers_in_columns()
+fn numbers_in_columns()
     ensures { Columns }
 {}
 
-/// The lines of a sheet.
+// The lines of a sheet.
 #[tactic(auto, using(crate::proofs::Sheet::sheets_printed))]
-pub fn printed()
+fn printed()
     ensures { SheetsPrinted }
 {}
 
-/// What writing a sheet answers, and leaves in the buffer.
+// What writing a sheet answers, and leaves in the buffer.
 #[tactic(auto, using(crate::proofs::Sheet::sheet_rooms))]
-pub fn rooms()
+fn rooms()
     ensures { SheetRooms }
 {}

@@ -3,92 +3,92 @@ ghost use Rattle.worked_cases.specs.Tag.{Selects, UnselectsNe, UnselectsFlag, Un
 ghost use Rattle.worked_cases.specs.Tag.{Repeats, Resets, Reads, FlexibleReads, Verifies, Writes, LocksTried};
 ghost use Rattle.worked_cases.specs.Tag.{LockQueries, NoFrames};
 
-/// On SELECT.
+// On SELECT.
 #[tactic(auto, using(crate::proofs::Tag::selects))]
-pub fn on_select()
+fn on_select()
     ensures { Selects }
 {}
 
-/// On UNSELECT_NE.
+// On UNSELECT_NE.
 #[tactic(auto, using(crate::proofs::Tag::unselects_ne))]
-pub fn on_unselect_ne()
+fn on_unselect_ne()
     ensures { UnselectsNe }
 {}
 
-/// On UNSELECT_ID_FLAG.
+// On UNSELECT_ID_FLAG.
 #[tactic(auto, using(crate::proofs::Tag::unselects_flag))]
-pub fn on_unselect_id_flag()
+fn on_unselect_id_flag()
     ensures { UnselectsFlag }
 {}
 
-/// On UNSELECT_NOID_FLAG.
+// On UNSELECT_NOID_FLAG.
 #[tactic(auto, using(crate::proofs::Tag::unselects_no_flag))]
-pub fn on_unselect_noid_flag()
+fn on_unselect_noid_flag()
     ensures { UnselectsNoFlag }
 {}
 
-/// On QUERY.
+// On QUERY.
 #[tactic(auto, using(crate::proofs::Tag::queries))]
-pub fn on_query()
+fn on_query()
     ensures { Queries }
 {}
 
-/// On SCROLL.
+// On SCROLL.
 #[tactic(auto, using(crate::proofs::Tag::scrolls))]
-pub fn on_scroll()
+fn on_scroll()
     ensures { Scrolls }
 {}
 
-/// On REPEAT.
+// On REPEAT.
 #[tactic(auto, using(crate::proofs::Tag::repeats))]
-pub fn on_repeat()
+fn on_repeat()
     ensures { Repeats }
 {}
 
-/// On RESET.
+// On RESET.
 #[tactic(auto, using(crate::proofs::Tag::resets))]
-pub fn on_reset()
+fn on_reset()
     ensures { Resets }
 {}
 
-/// On READ.
+// On READ.
 #[tactic(auto, using(crate::proofs::Tag::reads))]
-pub fn on_read()
+fn on_read()
     ensures { Reads }
 {}
 
-/// On READ_FLEXIBLE.
+// On READ_FLEXIBLE.
 #[tactic(auto, using(crate::proofs::Tag::flexible_reads))]
-pub fn on_read_flexible()
+fn on_read_flexible()
     ensures { FlexibleReads }
 {}
 
-/// On VERIFY.
+// On VERIFY.
 #[tactic(auto, using(crate::proofs::Tag::verifies))]
-pub fn on_verify()
+fn on_verify()
     ensures { Verifies }
 {}
 
-/// On WRITE.
+// On WRITE.
 #[tactic(auto, using(crate::proofs::Tag::writes))]
-pub fn on_write()
+fn on_write()
     ensures { Writes }
 {}
 
-/// On LOCK.
+// On LOCK.
 #[tactic(auto, using(crate::proofs::Tag::locks_tried))]
-pub fn on_lock()
+fn on_lock()
     ensures { LocksTried }
 {}
 
-/// On QLOCK.
+// On QLOCK.
 #[tactic(auto, using(crate::proofs::Tag::lock_queries))]
-pub fn on_qlock()
+fn on_qlock()
     ensures { LockQueries }
 {}
 
-/// On what opens as none.
+// On what opens as none.
 #[tactic(auto, using(crate::proofs::Tag::no_frames))]
-pub fn on_no_frame()
+fn on_no_frame()
     ensures { NoFrames }
 {}
