@@ -5,7 +5,8 @@ ghost use Rattle.frame.specs.Openings.{opening, opening_of};
 ghost use Rattle.reply.specs.Replies.{longest_reply};
 ghost use Rattle.tag.specs.Steps.{stepped};
 ghost use Rattle.field.specs.Airs.{only_reply, plain_hearing, MayHear};
-ghost use Rattle.field.specs.Sends.{coin_at, stepped_all, on_air, after_gap_all, padded, buffer_after_send, InPlace, Sized};
+ghost use Rattle.field.specs.Sends.{coin_at, stepped_all, on_air, after_gap_all, padded, buffer_after_send};
+ghost use Rattle.field.specs.Sends.{InPlace, Sized};
 ghost use Rattle.bench.specs.Heard.{hearing_with, replier_with, replied_bytes, air_so_far};
 
 use field::buffer::clear;

@@ -1,6 +1,6 @@
-// Answers questions about the chip, one to a line of standard input. About frames: `check BYTES`, `open BYTES`, `make CODE BYTES
-// ROOM`. About one tag: `new MEMORY`, `locks LOCKS`, `set STATE FLAG COUNTER MARK PERMISSION`, `step COIN FRAME`, `gap
-// MICROSECONDS`. The answers of another implementation are stored beside it, for comparison.
+// Answers questions about the chip, one to a line of standard input. About frames: `check BYTES`, `open BYTES`, `make
+// CODE BYTES ROOM`. About one tag: `new MEMORY`, `locks LOCKS`, `set STATE FLAG COUNTER MARK PERMISSION`, `step COIN
+// FRAME`, `gap MICROSECONDS`. The answers of another implementation are stored beside it, for comparison.
 #![tactic(auto)]
 
 mod frames;

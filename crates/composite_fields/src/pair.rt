@@ -114,8 +114,8 @@ fn row_behind(places: usize, row: u64) -> u64
     if places < 64 { row >> places } else { 0 }
 }
 
-// Sends to the right, beside what the left is heard as, whose reply stands in the buffer. Beside silence the right's own
-// reply may stand there; otherwise it has a buffer of its own. Neither is ever refused.
+// Sends to the right, beside what the left is heard as, whose reply stands in the buffer. Beside silence the right's
+// own reply may stand there; otherwise it has a buffer of its own. Neither is ever refused.
 #[tactic(auto, using(crate::proofs::Besides::heard_sent, crate::proofs::Besides::heard_left))]
 fn send_beside<R: Field>(
     right: &mut R,

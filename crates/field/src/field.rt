@@ -64,7 +64,8 @@ pub trait Field {
         ensures faithful { IfOk result
             (λ h. IsTrue (faithful self.old) → h ≡ plain_hearing (on_air (opening bytes.now) row (tags self.old))) }
         ensures as_faithful { faithful self.new ≡ faithful self.old }
-        ensures buffer { buffer.new ≡ buffer_after_send result (on_air (opening bytes.now) row (tags self.old)) buffer.old }
+        ensures buffer { buffer.new
+            ≡ buffer_after_send result (on_air (opening bytes.now) row (tags self.old)) buffer.old }
         ensures places { OnOk result
             (InPlace (λ place. stepped (opening bytes.now) (coin_at row place)) (tags self.old) (tags self.new)) }
         ensures kind { hears self.old bytes.now row result self.new }

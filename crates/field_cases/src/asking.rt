@@ -73,7 +73,8 @@ impl<F: Lending> AskedField<F> {
         ensures hearing { IfOk result.heard
             (λ h. MayHear (on_air (opening sending.now.frame.items) sending.now.row (F.tags self.old.field)) h) }
         ensures buffer { self.new.buffer
-            ≡ buffer_after_send result.heard (on_air (opening sending.now.frame.items) sending.now.row (F.tags self.old.field))
+            ≡ buffer_after_send result.heard
+            (on_air (opening sending.now.frame.items) sending.now.row (F.tags self.old.field))
             (take sending.now.room self.old.buffer)
             ++ drop sending.now.room self.old.buffer }
         ensures shown { (result.buffer ≡ self.new.buffer) × (result.tags ≡ tags_fingerprint (F.tags self.new.field)) }

@@ -1,5 +1,5 @@
-// Cases, line by line: `tag STATE FLAG COUNTER MARK PERMISSION LOCKS MEMORY` and `find SERIAL` about a table, then `field
-// NESTING` over it, then questions to that field, then `end`.
+// Cases, line by line: `tag STATE FLAG COUNTER MARK PERMISSION LOCKS MEMORY` and `find SERIAL` about a table, then
+// `field NESTING` over it, then questions to that field, then `end`.
 ghost use Rattle.std.specs.Prelude.{◌≡◌, [], ◌∷◌, ◌++◌, IfOk};
 ghost use Rattle.record.specs.declared.Tag.{Tag};
 ghost use Rattle.field_cases.specs.Questions.{Sends, Passes, Asks};

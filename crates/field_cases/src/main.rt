@@ -1,7 +1,8 @@
-// Answers questions about fields and sweeps of them, one to a line of standard input, in cases: `tag STATE FLAG COUNTER MARK
-// PERMISSION LOCKS MEMORY` and `find SERIAL` about a table, then `field NESTING` over it, then `send ROW ROOM FRAME`, `gap
-// MICROSECONDS` and `sweep BUDGET SLOTS SERIALS ROW...` to that field, then `end`. A sweep is lent so many rows of each
-// list's storage, and rows of coins. The answers of another implementation are stored beside it, for comparison.
+// Answers questions about fields and sweeps of them, one to a line of standard input, in cases: `tag STATE FLAG
+// COUNTER MARK PERMISSION LOCKS MEMORY` and `find SERIAL` about a table, then `field NESTING` over it, then `send ROW
+// ROOM FRAME`, `gap MICROSECONDS` and `sweep BUDGET SLOTS SERIALS ROW...` to that field, then `end`. A sweep is lent
+// so many rows of each list's storage, and rows of coins. The answers of another implementation are stored beside it,
+// for comparison.
 #![tactic(auto)]
 
 mod asking;

@@ -1,4 +1,5 @@
-// Fields of different kinds over four tags: what each hears of the same frames, and one list of calls that two of them are given.
+// Fields of different kinds over four tags: what each hears of the same frames, and one list of calls that two of them
+// are given.
 #![tactic(auto)]
 
 mod building;

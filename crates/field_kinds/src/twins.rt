@@ -1,5 +1,5 @@
-// Runs one list of calls on two fields of different kinds that begin alike: a bench, and a spoiler over a pair. Prints what
-// each call has come to on either, and whether the tags agree.
+// Runs one list of calls on two fields of different kinds that begin alike: a bench, and a spoiler over a pair. Prints
+// what each call has come to on either, and whether the tags agree.
 use crate::building::{bench_over, crowd, pair_of, spoiler_of};
 use crate::showing::show_all;
 use bench::single::Single;

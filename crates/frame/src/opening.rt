@@ -21,8 +21,8 @@ pub struct Frame<'a> {
     request: Request<'a>,
 }
 
-/// Opens a frame, or tells why not. Each parameter lies in the bytes at its offset, and the bytes are the one frame that
-/// making gives for that code and those parameters. The refusals, 1 to 4, and their order are in docs/frames.md.
+/// Opens a frame, or tells why not. Each parameter lies in the bytes at its offset, and the bytes are the one frame
+/// that making gives for that code and those parameters. The refusals, 1 to 4, and their order are in docs/frames.md.
 #[tactic(auto, using(crate::proofs::Limits::damaged_frames))]
 pub fn open(bytes: &[u8]) -> Result<Frame<'_>, Refusal>
     ensures seen { opening_of result ≡ opening bytes.now }

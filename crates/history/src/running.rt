@@ -12,8 +12,8 @@ use field::hearing::Hearing;
 use protocol::refusal::Refusal;
 use sweep::sweep;
 
-/// Runs a list of calls on a field, each at the workspace of its place. A call that is refused belongs to the run, which
-/// goes on. With fewer workspaces than calls nothing is done; those beyond the calls stay as they are.
+/// Runs a list of calls on a field, each at the workspace of its place. A call that is refused belongs to the run,
+/// which goes on. With fewer workspaces than calls nothing is done; those beyond the calls stay as they are.
 pub fn run<F: Field>(
     field: &mut F,
     calls: &[Call<'_>],

@@ -81,7 +81,9 @@ impl Masked<'_> {
     // Stores the byte at a place, if it is selected.
     fn store_at(&self, tag: &mut Tag, place: u8)
         ensures { tag.new
-            ≡ record tag.old { memory = stored_at self.now.address self.now.mask self.now.bytes.now tag.old.memory place } }
+            ≡ record tag.old {
+              memory = stored_at self.now.address self.now.mask self.now.bytes.now tag.old.memory place;
+            } }
     {
         if self.selects(place) {
             tag.put(self.address_of(place), self.byte(place));

@@ -1,7 +1,8 @@
 // A list that is filled from the front of lent storage.
 ghost use Rattle.std.specs.Prelude.{◌≤◌, length};
 
-/// The storage, and how many of its items are filled. The storage is the caller's, since this is for use without a heap.
+/// The storage, and how many of its items are filled. The storage is the caller's, since this is for use without a
+/// heap.
 #[derive(Drop)]
 pub struct SliceVec<'a, T> {
     pub(crate) storage: &'a mut [T],

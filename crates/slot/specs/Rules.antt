@@ -119,7 +119,7 @@ read_by Silence serial = in_reading serial
 read_by Lone serial = in_silence
 read_by Clash serial = in_reading serial
 
--- The sweep once a action is done and something is heard.
+-- The sweep once an action is done and something is heard.
 abbrev pub after_action : Action → Hearing → SweepState → SweepState
 after_action (stops n) h p = record p { phase = ended n }
 after_action (opens c frame row g next) h p =

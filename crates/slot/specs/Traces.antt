@@ -7,7 +7,7 @@ use Rattle.slot.specs.Commands.{repeat, read}
 use Rattle.slot.specs.Rules.{Setting, SweepState, Action, stops, opens, lists, reads, closes, rests}
 use Rattle.slot.specs.Rules.{next_action, advanced, run_by, MayHearAll, replayed}
 
--- The field before and after a action. One that sends has sent just its frame with its row, of which just this was heard;
+-- The field before and after an action. One that sends has sent just its frame with its row, of which just this was heard;
 -- one that sends nothing leaves the field as it is.
 abbrev pub AfterAction : {F : Type 0} → Kind F → Action → Hearing → F → F → Type 0
 AfterAction kind (stops n) h before after = after ≡ before

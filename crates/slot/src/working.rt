@@ -4,7 +4,8 @@ ghost use Rattle.std.specs.Prelude.{IsFalse, IfOk, IfErr, OnOk};
 ghost use Rattle.protocol.specs.declared.command.Command.TheVariants as command;
 ghost use Rattle.slice_vec.specs.Filling.{items_of, is_full, with_item};
 ghost use Rattle.slot.specs.Calls.{setting, at_slot, at_silent, at_lone, at_clash, serial_heard, budget_in, counts_in};
-ghost use Rattle.slot.specs.Calls.{position_opened, position_split, position_read, position_after, position_closed, Begins, Continues};
+ghost use Rattle.slot.specs.Calls.{position_opened, position_split, position_read, position_after};
+ghost use Rattle.slot.specs.Calls.{position_closed, Begins, Continues};
 ghost use Rattle.slot.specs.Calls.{counts_opened, counts_after, counts_closed, counts_read, no_counts};
 ghost use Rattle.slot.specs.Calls.{slots_opened, slots_after, BothBehind, IsWithin, handed_back, is_recorded};
 ghost use Rattle.slot.specs.Calls.{at_unread, split_refusal};
@@ -120,7 +121,8 @@ impl LoneSlot {
         ensures within { OnOk result (IsWithin (budget_in (at_lone self)) (position_read result)) }
         ensures sent { IfOk result (λ s. (counts_in (at_lone self)).commands < (counts_in (at_silent s)).commands) }
         ensures stop { IfErr result (λ s. stop_number s.stop ≡ (if is_full lists.old.serials then 9 else 8)) }
-        ensures unread { (coins : List ℕ) → IfErr result (λ s. IsFalse (is_full lists.old.serials) → Continues F.Field coins
+        ensures unread { (coins : List ℕ) → IfErr result (λ s. IsFalse (is_full lists.old.serials)
+            → Continues F.Field coins
             (at_lone self) (at_unread self s.counts) field.old field.new lists.old lists.new) }
         ensures slots { lists.new.slots ≡ lists.old.slots }
         ensures serials { items_of lists.new.serials ≡

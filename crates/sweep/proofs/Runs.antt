@@ -53,7 +53,7 @@ Stands before p (ended n) = n ≡ 0 → Over before p
 abbrev pub Clears : List Tag → Hearing → Type 0
 Clears before h = h ≡ Lone → Distinct before
 
--- It holds after a action, whatever may be heard.
+-- It holds after an action, whatever may be heard.
 abbrev StandsAfter : List Tag → Hearing → SweepState → Action → Type 0
 StandsAfter before h p d = MayHear (air_of d p.tags) h → Stands before (after_action d h p) (after_action d h p).phase
 

@@ -1,7 +1,8 @@
 // Going through a sweep, slot by slot.
 ghost use Rattle.std.specs.Prelude.{◌≤◌, length, IsTrue, IsFalse, OnOk};
 ghost use Rattle.slice_vec.specs.Filling.{items_of};
-ghost use Rattle.slot.specs.Calls.{setting, at_open_slot, Begins, Continues, BothBehind, IsWithin, counts_in, is_recorded};
+ghost use Rattle.slot.specs.Calls.{setting, at_open_slot, Begins, Continues, BothBehind, IsWithin, counts_in};
+ghost use Rattle.slot.specs.Calls.{is_recorded};
 ghost use Rattle.slot.specs.Slots.{progress_of};
 ghost use Rattle.sweep.specs.Working.{position_gone_on, position_worked, is_refused, Tallied, HasSent};
 
@@ -47,7 +48,8 @@ fn work_slot<F: Field>(
     ensures behind { BothBehind lists.old lists.new }
     ensures within { OnOk result (IsWithin (progress_of slot).budget (position_gone_on result)) }
     ensures sent { OnOk result (HasSent (progress_of slot).counts.commands (position_gone_on result)) }
-    ensures tally { Tallied (progress_of slot).counts (items_of lists.old.slots) → length (items_of lists.new.slots) ≤ 65535
+    ensures tally { Tallied (progress_of slot).counts (items_of lists.old.slots)
+        → length (items_of lists.new.slots) ≤ 65535
         → Tallied (counts_in (position_gone_on result)) (items_of lists.new.slots) }
     ensures stopped { IsFalse (is_refused result) }
 {

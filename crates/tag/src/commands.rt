@@ -5,7 +5,8 @@ ghost use Rattle.record.specs.declared.State.TheVariants.{Ready};
 ghost use Rattle.record.specs.Records.{is_write_ok, bytes_from, locked_at};
 ghost use Rattle.reply.specs.Replies.{data_in};
 ghost use Rattle.tag.specs.Orders.{is_matching};
-ghost use Rattle.tag.specs.Steps.{selected, unselected, unselect_reply, counter_after_query, reply_in_turn, dealt_with, verified};
+ghost use Rattle.tag.specs.Steps.{selected, unselected, unselect_reply, counter_after_query, reply_in_turn};
+ghost use Rattle.tag.specs.Steps.{dealt_with, verified};
 ghost use Rattle.tag.specs.Steps.{is_writable, written, locked};
 ghost use Rattle.tag.specs.Steps.{lock_status};
 

@@ -10,8 +10,9 @@ use history::running;
 use history::workspace::Workspace;
 use protocol::refusal::Refusal;
 
-/// Runs one list of calls on two fields, of which each has its own workspaces. A call that is refused belongs to the run,
-/// which goes on. With fewer workspaces than calls on either side nothing is done; those beyond the calls stay as they are.
+/// Runs one list of calls on two fields, of which each has its own workspaces. A call that is refused belongs to the
+/// run, which goes on. With fewer workspaces than calls on either side nothing is done; those beyond the calls stay as
+/// they are.
 #[tactic(auto, using(crate::proofs::Agreements::law))]
 pub fn run<L: Field, R: Field>(
     left: &mut L,
@@ -26,7 +27,8 @@ pub fn run<L: Field, R: Field>(
         left_workspaces.old left_workspaces.new right_workspaces.old right_workspaces.new) }
     ensures law { Law L.Field R.Field }
     ensures fields { OnErr result ((left.new ≡ left.old) × (right.new ≡ right.old)) }
-    ensures workspaces { OnErr result ((left_workspaces.new ≡ left_workspaces.old) × (right_workspaces.new ≡ right_workspaces.old)) }
+    ensures workspaces { OnErr result ((left_workspaces.new ≡ left_workspaces.old)
+        × (right_workspaces.new ≡ right_workspaces.old)) }
 {
     if left_workspaces.len() < calls.len() || right_workspaces.len() < calls.len() {
         return Err(Refusal::Buffer);
