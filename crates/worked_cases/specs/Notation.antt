@@ -86,10 +86,10 @@ unfoldable pub ErrorsListed : Type 0
 ErrorsListed =
     AllByRecursion {X = NotationError × String} (λ (error, text). error_text error ≡ codes text)
     ((notation_error.Bytes, "not the bytes that are wanted, in hexadecimal") ∷ (notation_error.Bit, "neither 0 nor 1")
-    ∷ (notation_error.Mark, "no write mark") ∷ (notation_error.Missing, "a word is missing")
-    ∷ (notation_error.Surplus, "a word too many") ∷ (notation_error.Memory, "out of memory")
-    ∷ (notation_error.Refused refusal.Code, "code") ∷ (notation_error.Refused refusal.Length, "length")
-    ∷ (notation_error.Refused refusal.Buffer, "buffer") ∷ [])
+    ∷ (notation_error.Mark, "no write mark") ∷ (notation_error.State, "no state")
+    ∷ (notation_error.Missing, "a word is missing") ∷ (notation_error.Surplus, "a word too many")
+    ∷ (notation_error.Memory, "out of memory") ∷ (notation_error.Refused refusal.Code, "code")
+    ∷ (notation_error.Refused refusal.Length, "length") ∷ (notation_error.Refused refusal.Buffer, "buffer") ∷ [])
 
 -- What the errors of reading hexadecimal are here.
 unfoldable pub ErrorsOfHex : Type 0

@@ -212,6 +212,7 @@ fn errors() -> Listing {
         ("Bytes", "not the bytes that are wanted, in hexadecimal"),
         ("Bit", "neither 0 nor 1"),
         ("Mark", "no write mark"),
+        ("State", "no state"),
         ("Missing", "a word is missing"),
         ("Surplus", "a word too many"),
         ("Memory", "out of memory"),
