@@ -1,9 +1,10 @@
 -- What making comes to, case by case. Assumes nothing.
-use Rattle.std.proofs.Common.{◌≡◌, ℕ, ◌+◌, ◌<◌, ◌≤◌, List, ◌∷◌, length, Some, None, Option, ap, ◌∙◌}
+use Rattle.std.proofs.Common.{◌≡◌, ℕ, ◌+◌, ◌<◌, ◌≤◌, List, ◌∷◌, length, Some, None, Option, ap, ◌∙◌, arith}
 use Rattle.std.proofs.lemmas.Bool.{lt-ltb, le-ltb, eq-eqb, ne_eqb, cond-true, cond-false}
 use Rattle.crc.specs.Check.{sealed}
 use Rattle.protocol.specs.declared.command.Command.{Command}
-use Rattle.protocol.specs.Commands.{length_of, command_with_code}
+use Rattle.protocol.specs.Commands.{code_of, length_of, command_with_code}
+use Rattle.protocol.proofs.Lookups.{named_self}
 use Rattle.frame.specs.Makings.{unmade, made, making, making_by_command}
 
 module _ (code : ℕ) (parameters : List ℕ) (room : ℕ) where
@@ -28,3 +29,7 @@ module _ (code : ℕ) (parameters : List ℕ) (room : ℕ) where
       makes r =
           for_command_lem (Some c) e ∙ cond-true _ _ _ (eq-eqb (length parameters + 3) (length_of c) l)
           ∙ cond-false _ _ _ (le-ltb room (length_of c) r)
+
+-- The parameters of a command, and a buffer too short for its frame.
+pub short_of_room : (c : Command) (parameters : List ℕ) (room : ℕ) → length parameters + 3 ≡ length_of c → room < length parameters + 3 → making (code_of c) parameters room ≡ unmade 5
+short_of_room c parameters room whole short = no_room (code_of c) parameters room c (named_self c) whole (omega arith)

@@ -1,5 +1,5 @@
 // Making a frame at the front of a lent buffer.
-ghost use Rattle.std.specs.Prelude.{◌≡◌, ℕ, ◌+◌, length, take, IfOk, IfErr};
+ghost use Rattle.std.specs.Prelude.{◌≡◌, ℕ, ◌+◌, ◌≤◌, length, take, IfOk, IfErr};
 ghost use Rattle.frame.specs.Cases.{BareFrames};
 ghost use Rattle.frame.specs.Makings.{making, unmade, result_of, buffer_after, OpensAs};
 ghost use Rattle.protocol.specs.Commands.{code_of, length_of};
@@ -49,6 +49,7 @@ impl<'a> Draft<'a> {
         })
     }
 
+    #[tactic(auto, using(crate::proofs::Makes::short_of_room))]
     fn write(&self, buffer: &mut [u8]) -> Result<usize, Refusal>
         ensures answer { write_result result
             ≡ result_of (making (code_of self.now.command) self.now.parameters.now (length buffer.old)) }
@@ -60,6 +61,19 @@ impl<'a> Draft<'a> {
         if buffer.len() < self.parameters.len() + 3 {
             return Err(Refusal::Buffer);
         }
+        self.lay(buffer)
+    }
+
+    // Writes the frame into a buffer that has room for it.
+    fn lay(&self, buffer: &mut [u8]) -> Result<usize, Refusal>
+        requires { length self.now.parameters.now + 3 ≤ length buffer.old }
+        ensures answer { write_result result
+            ≡ result_of (making (code_of self.now.command) self.now.parameters.now (length buffer.old)) }
+        ensures buffer { buffer.new
+            ≡ buffer_after (making (code_of self.now.command) self.now.parameters.now (length buffer.old)) buffer.old }
+        ensures opens { IfOk result (λ n.
+            OpensAs (code_of self.now.command) self.now.parameters.now (take n buffer.new)) }
+    {
         let mut writer = Writer::new(buffer);
         writer.put(&[self.command.code()])?;
         writer.put(self.parameters)?;

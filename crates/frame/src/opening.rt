@@ -76,18 +76,10 @@ impl<'a> Sealed<'a> {
         ensures bytes { IfOk result (λ s. s.bytes.now ≡ bytes.now) }
         ensures refusal { IfErr result (λ e. opening bytes.now ≡ refused (number_of e)) }
     {
-        let [code, parameters @ .., high, low] = bytes else {
-            return Err(Refusal::Stub);
-        };
-        let mut register = Register::preset();
-        register.take_byte(*code);
-        register.take(parameters);
-        if register.check_value() != u16::from_be_bytes([*high, *low]) {
-            return Err(Refusal::Check);
-        }
+        let (code, parameters) = unsealed(bytes)?;
         Ok(Sealed {
             bytes,
-            code: *code,
+            code,
             parameters,
         })
     }
@@ -111,4 +103,24 @@ impl<'a> Sealed<'a> {
             request: Request::of(entry.command, self.parameters),
         })
     }
+}
+
+// The code and the parameters of bytes whose check value is right.
+fn unsealed(bytes: &[u8]) -> Result<(u8, &[u8]), Refusal>
+    ensures long { OnOk result (3 ≤ length bytes.now) }
+    ensures right { OnOk result (IsTrue (is_sealed bytes.now)) }
+    ensures first { IfOk result (λ p. p.0 ≡ slice_index bytes.now 0) }
+    ensures between { IfOk result (λ p. p.1.now ≡ parameters_of bytes.now) }
+    ensures refusal { IfErr result (λ e. opening bytes.now ≡ refused (number_of e)) }
+{
+    let [code, parameters @ .., high, low] = bytes else {
+        return Err(Refusal::Stub);
+    };
+    let mut register = Register::preset();
+    register.take_byte(*code);
+    register.take(parameters);
+    if register.check_value() != u16::from_be_bytes([*high, *low]) {
+        return Err(Refusal::Check);
+    }
+    Ok((*code, parameters))
 }

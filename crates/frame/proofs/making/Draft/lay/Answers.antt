@@ -3,19 +3,11 @@ use Rattle.crc.specs.Check.{sealed}
 use Rattle.protocol.specs.Commands.{code_of}
 use Rattle.protocol.proofs.Lookups.{named_self}
 use Rattle.protocol.specs.Refusals.{wrote}
-use Rattle.frame.specs.Makings.{unmade, made, making, result_of}
-use Rattle.frame.proofs.Makes.{no_room, makes}
+use Rattle.frame.specs.Makings.{made, making, result_of}
+use Rattle.frame.proofs.Makes.{makes}
 use Rattle.frame.proofs.Trips.{opens_back, opens_at}
 use Rattle.frame.proofs.Writes.{Holds, holds_more, holds-sealed}
-use Rattle.frame.proofs.making.Draft.write.Goals as goal
-
-pub returns-then-buffer-self : goal.returns-then-buffer-self
-returns-then-buffer-self c =
-    let d = c.args.self.now in
-    let code : ℕ = code_of d.command in
-    let none : making code d.parameters.now (length c.args.buffer.now) ≡ unmade 5 =
-    no_room code d.parameters.now (length c.args.buffer.now) d.command (named_self d.command) d.whole (omega arith) in
-    record { answer = rw none (search rules); buffer = rw none (search rules); opens = tt }
+use Rattle.frame.proofs.making.Draft.lay.Goals as goal
 
 pub returns : goal.returns
 returns c =

@@ -3,7 +3,7 @@ use Rattle.crc.specs.Check.{check_value}
 use Rattle.frame.specs.Openings.{without_check_value}
 use Rattle.frame.proofs.Opens.{stub, bad_check}
 use Rattle.frame.proofs.Seals.{right, wrong, front-is, parameters_are, comes_to}
-use Rattle.frame.proofs.opening.Sealed.of.Goals as goal
+use Rattle.frame.proofs.opening.unsealed.Goals as goal
 
 pub returns-in_default-clause-refusal : goal.returns-in_default-clause-refusal
 returns-in_default-clause-refusal c = stub c.args.bytes.now c.in_default.len_below
@@ -17,8 +17,8 @@ returns-then-check_value-from_be_bytes-clause-refusal c =
     ∙ ap check_value (sym (front-is bytes long)) in
     bad_check bytes long (wrong bytes long (λ e. c.if-check_value-from_be_bytes.true (value ∙ e ∙ sym c.from_be_bytes.ensures)))
 
-pub invariant_of-result : goal.invariant_of-result
-invariant_of-result c =
+pub returns : goal.returns
+returns c =
     let bytes : List ℕ = c.args.bytes.now in
     let long = c.in-len3-up.len_at_least in
     let value : c.check_value.result ≡ check_value (without_check_value bytes) =
@@ -30,4 +30,5 @@ invariant_of-result c =
       right = right bytes long (sym value ∙ c.if-check_value-from_be_bytes.false ∙ c.from_be_bytes.ensures) (byte (length bytes - 2)) (byte (length bytes - 1));
       first = refl;
       between = sym (parameters_are bytes long);
+      refusal = tt;
     }
