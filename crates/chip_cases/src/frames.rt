@@ -2,10 +2,12 @@
 use crc::check_value;
 use frame::making::make;
 use frame::opening::{Frame, open};
+use notation::error::NotationError;
 use notation::hexadecimal::{Hex, read_byte, read_bytes};
 use notation::words::{no_word, word};
 use protocol::command::PARAMETERS;
 use std::alloc::{AllocError, Global};
+use std::str::SplitWhitespace;
 use std::{fmt, iter};
 
 // The code of a frame, and each parameter with its offset and its length.
@@ -33,14 +35,14 @@ fn filled(heap: Global, room: usize) -> Result<Vec<u8>, AllocError> {
         .collect(heap)
 }
 
-pub(crate) fn answer_check(rt: &HostRuntime, text: &str) -> anyhow::Result<()> {
-    let message = read_bytes(rt.alloc(), text)?;
+pub(crate) fn answer_check(rt: &HostRuntime, words: SplitWhitespace<'_>) -> anyhow::Result<()> {
+    let message = read_bytes(rt.alloc(), only_word(words)?)?;
     println!(rt; "{:04X}", check_value(message.as_slice()))?;
     Ok(())
 }
 
-pub(crate) fn answer_open(rt: &HostRuntime, text: &str) -> anyhow::Result<()> {
-    let question = read_bytes(rt.alloc(), text)?;
+pub(crate) fn answer_open(rt: &HostRuntime, words: SplitWhitespace<'_>) -> anyhow::Result<()> {
+    let question = read_bytes(rt.alloc(), only_word(words)?)?;
     match open(question.as_slice()) {
         Ok(frame) => println!(rt; "{}", Opened { frame })?,
         Err(refusal) => println!(rt; "refused {}", refusal.number())?,
@@ -48,8 +50,13 @@ pub(crate) fn answer_open(rt: &HostRuntime, text: &str) -> anyhow::Result<()> {
     Ok(())
 }
 
-pub(crate) fn answer_make(rt: &HostRuntime, rest: &str) -> anyhow::Result<()> {
-    let mut words = rest.split_whitespace();
+fn only_word<'a>(mut words: SplitWhitespace<'a>) -> Result<&'a str, NotationError> {
+    let only = word(words.next())?;
+    no_word(words.next())?;
+    Ok(only)
+}
+
+pub(crate) fn answer_make(rt: &HostRuntime, mut words: SplitWhitespace<'_>) -> anyhow::Result<()> {
     let code = read_byte(word(words.next())?)?;
     let parameters = read_bytes(rt.alloc(), word(words.next())?)?;
     let room = word(words.next())?.parse::<usize>()?;

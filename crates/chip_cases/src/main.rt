@@ -30,14 +30,19 @@ Answers questions about frames and about one tag, one to a line of standard inpu
 const QUESTIONS: &str =
     "no question: one begins with `check`, `open`, `make`, `new`, `locks`, `set`, `step` or `gap`";
 
+// About frames, words are what stands between blanks of any kind. About a tag, the verb ends at the first space, and
+// has words of its own behind it.
 fn answer(asked: &mut AskedTag<'_>, line: &str) -> anyhow::Result<()> {
-    let (verb, rest) = line.split_once(' ').context(QUESTIONS)?;
+    let mut words = line.split_whitespace();
     // A match and no table of closures, since each verb has words of its own.
-    match verb {
-        "check" => answer_check(asked.rt, rest),
-        "open" => answer_open(asked.rt, rest),
-        "make" => answer_make(asked.rt, rest),
-        _ => asked.answer(verb, rest),
+    match words.next() {
+        Some("check") => answer_check(asked.rt, words),
+        Some("open") => answer_open(asked.rt, words),
+        Some("make") => answer_make(asked.rt, words),
+        _ => {
+            let (verb, rest) = line.split_once(' ').context(QUESTIONS)?;
+            asked.answer(verb, rest)
+        }
     }
 }
 
