@@ -40,6 +40,7 @@ impl SendQuestion {
     {
         let (row, rest) = split_word(text)?;
         let (room, frame) = split_word(rest)?;
+        ensure!(!frame.is_empty(), "a word is missing");
         let row = read_row(row)?;
         let room = room.parse::<usize>()?;
         ensure!(room <= BUFFER, "more room than the buffer has");

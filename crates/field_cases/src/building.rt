@@ -1,5 +1,5 @@
 // A field, built as words say: `bench N`, `single`, `pair LEFT RIGHT`, `spoiler K BELOW`.
-ghost use Rattle.std.specs.Prelude.{◌≡◌, ◌<◌, [], ◌++◌, length, IfOk, OnErr};
+ghost use Rattle.std.specs.Prelude.{◌≡◌, ◌<◌, [], ◌++◌, length, IfOk, OnOk, OnErr};
 ghost use Rattle.field_cases.specs.Builds.{parts_tags};
 ghost use Rattle.field_cases.specs.Nestings.{leaf_tags, node_tags};
 
@@ -93,10 +93,32 @@ pub(crate) fn built<'a, F: Build<'a> + Drop>(
         tags,
     };
     let parts = Parts::<F>::read(&mut source)?;
-    if !source.tags.is_empty() {
-        return Err(Trouble::Words(anyhow!("too many tags")));
-    }
+    all_used(&source)?;
     parts.joined()
+}
+
+// The same of a nesting without a layer, which so is no larger than what stands at the bottom.
+pub(crate) fn built_leaf<'a>(nesting: &str, tags: &'a mut [Tag]) -> Result<Leaf<'a>, Trouble>
+    ensures { IfOk result (λ leaf. leaf_tags leaf ≡ tags.old) }
+{
+    let mut source = Source {
+        words: nesting.split_whitespace().peekable(),
+        tags,
+    };
+    let leaf = Leaf::build(&mut source)?;
+    all_used(&source)?;
+    Ok(leaf)
+}
+
+// That each tag is some field's.
+fn all_used(source: &Source<'_, '_>) -> Result<(), Trouble>
+    ensures { OnOk result (source.now.tags.now ≡ []) }
+{
+    if source.tags.is_empty() {
+        Ok(())
+    } else {
+        Err(Trouble::Words(anyhow!("too many tags")))
+    }
 }
 
 /// A kind of field that words can tell. It is built of the first tags, and the others stay.
@@ -136,7 +158,8 @@ fn single_leaf<'a>(source: &mut Source<'_, 'a>) -> Result<Leaf<'a>, Trouble>
     Ok(Leaf::Lone(Single::new(*tag)))
 }
 
-// What a layer is made of, before it is put on.
+// What the outermost layer is made of, before it is put on: tags left over are told first. Both steps are inlined,
+// since a field is large and each call moves it.
 #[derive(Drop)]
 enum Parts<F> {
     Bare(F),
@@ -145,6 +168,7 @@ enum Parts<F> {
 }
 
 impl<F> Parts<F> {
+    #[inline(always)]
     fn read<'a>(source: &mut Source<'_, 'a>) -> Result<Parts<F>, Trouble>
     where
         F: Build<'a> + Drop,
@@ -161,6 +185,7 @@ impl<F> Parts<F> {
         Ok(Parts::Bare(F::build(source)?))
     }
 
+    #[inline(always)]
     fn joined(self) -> Result<Node<F>, Trouble>
     where
         F: Field + Drop,
@@ -177,6 +202,17 @@ impl<F> Parts<F> {
 impl<'a, F: Build<'a> + Drop> Build<'a> for Node<F> {
     /// Builds a field of the next words, or says why there is none.
     fn build(source: &mut Source<'_, 'a>) -> Result<Node<F>, Trouble> {
-        Parts::read(source)?.joined()
+        // Not by way of its parts, which would be moved once more.
+        if source.takes("pair") {
+            let left = F::build(source)?;
+            let right = F::build(source)?;
+            return Ok(Node::Paired(Pair::new(left, right)?));
+        }
+        if source.takes("spoiler") {
+            let period = source.number::<u16>()?;
+            let below = F::build(source)?;
+            return Ok(Node::Spoiled(Spoiler::new(below, period)?));
+        }
+        Ok(Node::Bare(F::build(source)?))
     }
 }

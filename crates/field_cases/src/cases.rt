@@ -5,7 +5,7 @@ ghost use Rattle.record.specs.declared.Tag.{Tag};
 ghost use Rattle.field_cases.specs.Questions.{Sends, Passes, Asks};
 
 use crate::asking::{AskedField, SendQuestion};
-use crate::building::{Build, Trouble, built};
+use crate::building::{Build, Trouble, built, built_leaf};
 use crate::nesting::Below;
 use crate::reading::{read_tag, split_word};
 use crate::showing::of_tags;
@@ -23,7 +23,7 @@ use std::io::{BufRead, BufReader};
 fn answer<F: Lending>(
     rt: &HostRuntime,
     asked: &mut AskedField<F>,
-    storage: &mut Storage,
+    storage: &mut Option<Storage>,
     verb: &str,
     rest: &str,
 ) -> anyhow::Result<()>
@@ -34,7 +34,9 @@ fn answer<F: Lending>(
     match verb {
         "send" => answer_send(rt, asked, rest),
         "gap" => answer_gap(rt, asked, rest),
-        "sweep" => storage.sweep(rt, &mut asked.field, rest),
+        "sweep" => storage
+            .get_or_insert_with(Storage::new)
+            .sweep(rt, &mut asked.field, rest),
         _ => bail!("no question to a field, as `send ROW ROOM FRAME` is"),
     }
 }
@@ -107,7 +109,8 @@ fn answer_all<F: Lending + Drop>(
     questions: &[String],
 ) -> anyhow::Result<()> {
     let mut asked = AskedField::new(field);
-    let mut storage = Storage::new();
+    // Made at the first sweep: most cases have none, and to fill it would add two fifths to a short case.
+    let mut storage = None;
     for question in questions {
         let (verb, rest) = split_word(question.as_str())?;
         answer(rt, &mut asked, &mut storage, verb, rest)?;
@@ -115,15 +118,13 @@ fn answer_all<F: Lending + Drop>(
     Ok(())
 }
 
-// Builds the field of a case, and puts the questions to it. A refused field is one of no tags. What stands below the
-// outermost layer is a parameter, since the toolchain proves this for any such field, and not at a nesting written out.
-fn perform<'a, F: Build<'a> + Drop>(
+// Puts the questions to the field of a case. A refused field is one of no tags.
+fn answer_built<F: Lending + Drop>(
     rt: &HostRuntime,
-    table: &'a mut [Tag],
-    nesting: &str,
+    built: Result<F, Trouble>,
     questions: &[String],
 ) -> anyhow::Result<()> {
-    match built::<F>(nesting, table) {
+    match built {
         Ok(field) => {
             println!(rt; "places {} {}", field.places(), of_tags(&field))?;
             answer_all(rt, field, questions)
@@ -133,6 +134,21 @@ fn perform<'a, F: Build<'a> + Drop>(
             answer_all(rt, Bench::new(), questions)
         }
         Err(Trouble::Words(error)) => Err(error),
+    }
+}
+
+// Builds the field of a case, and puts the questions to it. What stands below the outermost layer is a parameter, since
+// the toolchain proves this for any such field, and not at a nesting written out. A field without a layer is built as
+// what it is: as large as three layers it would be moved about for longer than a short case takes.
+fn perform<'a, F: Build<'a> + Drop>(
+    rt: &HostRuntime,
+    table: &'a mut [Tag],
+    nesting: &str,
+    questions: &[String],
+) -> anyhow::Result<()> {
+    match nesting.split_whitespace().next() {
+        Some("pair" | "spoiler") => answer_built(rt, built::<F>(nesting, table), questions),
+        _ => answer_built(rt, built_leaf(nesting, table), questions),
     }
 }
 
@@ -160,7 +176,7 @@ pub(crate) fn answer_cases(rt: &HostRuntime) -> anyhow::Result<()> {
         let line = line?;
         if line.as_str() == "end" {
             answer_case(rt, lines.as_slice())
-                .context("the answer_case that ends here")
+                .context("the case that ends here")
                 .context(Line { number })?;
             println!(rt; "end")?;
             lines.clear();
@@ -168,9 +184,6 @@ pub(crate) fn answer_cases(rt: &HostRuntime) -> anyhow::Result<()> {
             lines.push(line)?;
         }
     }
-    ensure!(
-        lines.is_empty(),
-        "no line `end` behind the last answer_case"
-    );
+    ensure!(lines.is_empty(), "no line `end` behind the last case");
     Ok(())
 }
