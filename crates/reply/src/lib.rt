@@ -1,4 +1,4 @@
-// What a tag replies: told in a few bytes, and written out only where someone hears it.
+// What a tag replies: told in a few bytes, and written out by a call of its own.
 #![tactic(auto)]
 
 ghost use Rattle.std.specs.Prelude.{◌≡◌, ◌+◌, ◌≤◌, length, is_ok};
